@@ -4,7 +4,7 @@ use Rattle.std.specs.FinMap as map
 use Rattle.byte_map.proofs.Maps.{map_entries}
 use Rattle.byte_map.specs.Sorted.{IsSorted}
 use Rattle.collections.specs.Refusal.{IsRefusal}
-use Rattle.checkpoint.specs.Checkpoint.{Checkpoint, IsWhole}
+use Rattle.checkpoint.specs.Checkpoint.{Checkpoint}
 use Rattle.checkpoint.specs.Sound.{IsSound, WholeIsSound}
 use Rattle.checkpoint_check.specs.Refusals.{Condition, rank}
 use Rattle.checkpoint_check.specs.declared.fault.CheckpointFault.{CheckpointFault}
@@ -21,7 +21,7 @@ use Rattle.saved_world.specs.Parts.{IsPartAt, HasNoPart}
 use Rattle.saved_world.specs.Saved.{IsSaved, head_part, pages_code, end_part, joined}
 use Rattle.saved_world.specs.Loaded.{IsReadTo, IsLoaded, IsLoadAccepted}
 use Rattle.saved_world.specs.declared.fault.LoadedFault.{LoadedFault}
-use Rattle.saved_world.specs.declared.fault.LoadedFault.TheVariants.{Cut, Trailing, Head as OfHead, Page as OfPage, Checkpoint as OfCheckpoint}
+use Rattle.saved_world.specs.declared.fault.LoadedFault.TheVariants.{Damaged, Cut, Trailing, Head as OfHead, Page as OfPage, Checkpoint as OfCheckpoint}
 use Rattle.saved_world.specs.inner.PagesRead.{AreReadTo, AreLeft, ArePagesRead, ArePagesAccepted}
 
 abbrev pub Answer : Type 0
@@ -73,6 +73,7 @@ module _ (bytes part more : List ℕ) (at : IsPartAt bytes part more) where
     no_pages r fault is read = subst (IsLoaded bytes) (sym is) (by fault read)
       where
         by : (fault : LoadedFault) → ArePagesRead start more (Err fault) now → IsLoaded bytes (Err fault)
+        by Damaged read = absurd read
         by Cut (rest, to, cut) = inr (now, rest, whole_to rest to, cut)
         by Trailing (after, to, some) = (now, after, whole_to (end_part ++ after) to, some)
         by (OfPage why) (page, after, to, refused) = (now, page, after, whole_to (bytes_code page ++ after) to, refused)

@@ -7,3 +7,4 @@ pub mod Cuts
 pub mod Joins
 pub mod Loads
 pub mod Backs
+mod Digests

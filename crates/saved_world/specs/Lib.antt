@@ -8,4 +8,5 @@ pub mod Inside
 pub mod Parts
 pub mod Saved
 pub mod Loaded
+pub mod Read
 pub mod inner

@@ -1,5 +1,5 @@
--- Cited by the contracts of load.
--- What loading a checkpoint from one list of bytes answers.
+-- Cited by the contracts of load, by way of Read.
+-- What loading a checkpoint from its parts, which stand one after another, answers.
 use Rattle.std.specs.Prelude.{◌≡◌, ◌≢◌, ◌⊎◌, ℕ, List, [], ◌++◌, Result, Ok, Err}
 use Rattle.checkpoint.specs.Checkpoint.{Checkpoint}
 use Rattle.checkpoint.specs.Sound.{IsSound}
@@ -16,7 +16,7 @@ use Rattle.saved_world.specs.Loading.{Loaded, checkpoint_in, IsAdded, IsOutOfMem
 use Rattle.saved_world.specs.Parts.{HasNoPart}
 use Rattle.saved_world.specs.Saved.{IsSaved, head_part, pages_code, end_part, joined}
 use Rattle.saved_world.specs.declared.fault.LoadedFault.{LoadedFault}
-use Rattle.saved_world.specs.declared.fault.LoadedFault.TheVariants.{Cut, Trailing, Head as OfHead, Page as OfPage, Checkpoint as OfCheckpoint}
+use Rattle.saved_world.specs.declared.fault.LoadedFault.TheVariants.{Damaged, Cut, Trailing, Head as OfHead, Page as OfPage, Checkpoint as OfCheckpoint}
 
 -- the bytes begin with a head and pages, which are these and are read, and others follow
 pub record IsReadTo (bytes : List ℕ) (loaded : Loaded) (rest : List ℕ) : Type 0 where
@@ -33,6 +33,7 @@ HasPartAt bytes loaded part more = IsReadTo bytes loaded (bytes_code part ++ mor
 -- what is loaded has these bytes as a code, and a world may open from it; each refusal has its reason
 abbrev pub IsLoaded : List ℕ → Result Checkpoint LoadedFault → Type 0
 IsLoaded bytes (Ok c) = (loaded : Loaded) × IsReadTo bytes loaded end_part × (c ≡ checkpoint_in loaded) × IsSound c
+IsLoaded bytes (Err Damaged) = ⊥
 IsLoaded bytes (Err Cut) = HasNoPart bytes ⊎ ((loaded : Loaded) × (rest : List ℕ) × IsReadTo bytes loaded rest × HasNoPart rest)
 IsLoaded bytes (Err Trailing) = (loaded : Loaded) × (more : List ℕ) × HasPartAt bytes loaded [] more × (more ≢ [])
 IsLoaded bytes (Err (OfHead fault)) = (part more : List ℕ) × (bytes ≡ bytes_code part ++ more) × IsHeadRead part (Err fault)
@@ -40,6 +41,7 @@ IsLoaded bytes (Err (OfPage fault)) = (loaded : Loaded) × (part more : List ℕ
 IsLoaded bytes (Err (OfCheckpoint fault)) = (loaded : Loaded) × IsReadTo bytes loaded end_part × IsRefusal rank (Condition (checkpoint_in loaded)) checkpoint.Memory fault
 
 abbrev pub IsLoadOutOfMemory : LoadedFault → Type 0
+IsLoadOutOfMemory Damaged = ⊥
 IsLoadOutOfMemory Cut = ⊥
 IsLoadOutOfMemory Trailing = ⊥
 IsLoadOutOfMemory (OfHead fault) = fault ≡ head.Memory

@@ -1,5 +1,5 @@
 -- Cited by the contracts of save and load.
--- A checkpoint as one list of bytes: its parts, each after its length, the head first and an empty part at the end.
+-- A checkpoint as one list of bytes: its parts, each after its length, the head first and an empty part at the end, with a digest.
 use Rattle.std.specs.Prelude.{◌≡◌, ℕ, ◌≤◌, List, [], ◌++◌, length}
 use Rattle.std.specs.List.{AllByRecursion, flat_map}
 use Rattle.std.specs.FinMap as map
@@ -11,6 +11,7 @@ use Rattle.entry_code.specs.Parts.{pairs_code, ArePairs}
 use Rattle.checkpoint_code.specs.Head.{head_code, IsKnown}
 use Rattle.checkpoint_code.specs.Page.{Page}
 use Rattle.checkpoint_code.specs.declared.head.Head.{Head}
+use Rattle.digested_bytes.specs.Whole.{IsWithDigest}
 use Rattle.saved_world.specs.Head.{head_of}
 
 abbrev pub page_part : Page → List ℕ
@@ -37,7 +38,7 @@ pub record IsPageOf (limit : ℕ) (page : Page) : Type 0 where
   pub known : ArePairs page
   pub short : IsByteString (pairs_code page)
 
--- the bytes of a checkpoint, in pages of at most so many pairs
+-- the parts of a checkpoint, in pages of at most so many pairs
 pub record IsSaved (limit : ℕ) (checkpoint : Checkpoint) (bytes : List ℕ) : Type 0 where
   pub pages : List Page
   pub are_pages : AllByRecursion (IsPageOf limit) pages
@@ -46,3 +47,7 @@ pub record IsSaved (limit : ℕ) (checkpoint : Checkpoint) (bytes : List ℕ) : 
   pub head_short : IsByteString (head_code (head_of checkpoint))
   pub head_known : IsKnown IsStorable (head_of checkpoint)
   pub whole : IsWhole checkpoint
+
+-- the same with their digest
+abbrev pub IsSavedWhole : ℕ → Checkpoint → List ℕ → Type 0
+IsSavedWhole limit checkpoint bytes = (parts : List ℕ) × IsSaved limit checkpoint parts × IsWithDigest parts bytes

@@ -42,6 +42,10 @@ impl From<AllocError> for LoadFault {
 /// reason.
 #[derive(Clone, Copy, Debug, PartialEq, Eq, Error)]
 pub enum LoadedFault {
+    /// The bytes begin with the marker, and do not end in the digest of what is before it: they are
+    /// damaged.
+    #[error("the bytes are damaged: their digest is another")]
+    Damaged,
     /// The bytes end before the empty part that ends the pages.
     #[error("the bytes are cut")]
     Cut,

@@ -120,3 +120,63 @@ pub(crate) fn whole(alloc: Global, head: &[u8], pairs: &[Pair]) -> Result<Vec<u8
     push_part(&mut out, &[])?;
     Ok(out)
 }
+
+/// What saved bytes begin with.
+pub(crate) const MARKER: &[u8] = b"\x89CAGZ\r\n\x1a";
+
+/// SHA-256 of the marker and the parts of `HEAD` and `PAIRS`, by `sha256sum`.
+pub(crate) const WORKED_DIGEST: &[u8] = b"\
+\xd3\x2d\xb1\xcd\x60\xe3\xf1\x07\x15\x09\x7f\x47\xcf\xf0\x05\x8d\
+\x27\xde\x5e\xa6\xe5\xd7\xc6\x93\x3f\x4f\x36\x22\xb4\xc2\xb7\x36";
+
+/// The same of `EMPTY_HEAD` without pairs.
+pub(crate) const EMPTY_DIGEST: &[u8] = b"\
+\x0d\x8e\x2e\xd4\x2c\x02\xa0\x3e\x6a\x61\x24\x21\x0b\xb4\x7b\xa7\
+\xa2\x81\x6d\x2e\xde\x6f\x32\x52\x6f\xe1\xf3\x56\xa8\xa7\xf1\xfa";
+
+/// The marker, these parts, and their digest.
+pub(crate) fn saved_bytes(
+    alloc: Global,
+    parts: &[u8],
+    digest: &[u8],
+) -> Result<Vec<u8>, AllocError> {
+    let mut out = Vec::new(alloc);
+    out.extend_from_slice(MARKER)?;
+    out.extend_from_slice(parts)?;
+    out.extend_from_slice(digest)?;
+    Ok(out)
+}
+
+/// The parts in saved bytes; none if there are fewer bytes than beside parts.
+pub(crate) fn parts_in(saved: &[u8]) -> &[u8] {
+    if saved.len() < 40 {
+        return &[];
+    }
+    &saved[8..saved.len() - 32]
+}
+
+/// A checkpoint of `EMPTY_HEAD` and the rows 0 to 1,000 without a value in `a`: a page of 1,000 pairs,
+/// and one more.
+pub(crate) fn many(alloc: Global) -> Result<Vec<u8>, AllocError> {
+    let mut out = Vec::new(alloc);
+    push_part(&mut out, EMPTY_HEAD)?;
+    push_rows(alloc, &mut out, 0, 1000)?;
+    push_rows(alloc, &mut out, 1000, 1001)?;
+    push_part(&mut out, &[])?;
+    Ok(out)
+}
+
+// Adds a page of the `exists` pairs of these rows.
+fn push_rows(alloc: Global, out: &mut Vec<u8>, from: u16, to: u16) -> Result<(), AllocError> {
+    let mut page = Vec::new(alloc);
+    page.push(1)?;
+    push_count(&mut page, to.saturating_sub(from) as usize)?;
+    for row in from..to {
+        let [high, low] = row.to_be_bytes();
+        push_count(&mut page, 18)?;
+        page.extend_from_slice(b"R\0\0\0\x01\x02\x80\0\0\0\0\0")?;
+        page.extend_from_slice(&[high, low, 0, 0, 0, 0])?;
+        push_count(&mut page, 0)?;
+    }
+    push_part(out, page.as_slice())
+}

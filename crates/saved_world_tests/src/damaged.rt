@@ -1,6 +1,6 @@
-//! Bytes that are cut, longer or changed: refused for a named reason, or the bytes of another
-//! checkpoint.
-use crate::by_hand::{HEAD, PAIRS, whole};
+//! Parts without a digest that are cut, longer or changed: refused for a named reason, or the parts
+//! of another checkpoint.
+use crate::by_hand::{HEAD, PAIRS, parts_in, whole};
 use checkpoint_code::{HeadFault, PageFault};
 use saved_world::{LoadFault, LoadedFault, load, save};
 use std::alloc::Global;
@@ -13,7 +13,7 @@ const SHORT: LoadedFault = LoadedFault::Checkpoint(CheckpointFault::Memory);
 fn reported(alloc: Global, bytes: &[u8]) -> Result<bool, LoadedFault> {
     let checkpoint = load(alloc, bytes)?;
     match save(alloc, &checkpoint) {
-        Ok(again) => Ok(again.as_slice() == bytes),
+        Ok(again) => Ok(parts_in(again.as_slice()) == bytes),
         Err(_) => Err(SHORT),
     }
 }

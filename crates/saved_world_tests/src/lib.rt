@@ -8,6 +8,8 @@ mod copied;
 #[cfg(test)]
 mod damaged;
 #[cfg(test)]
+mod digests;
+#[cfg(test)]
 mod loading;
 #[cfg(test)]
 mod parts;

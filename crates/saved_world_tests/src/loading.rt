@@ -1,5 +1,5 @@
 //! A checkpoint that is read part by part: a page that is refused changes nothing.
-use crate::by_hand::{EMPTY_HEAD, HEAD, OTHER_HEAD, PAIRS, page, whole};
+use crate::by_hand::{EMPTY_HEAD, HEAD, OTHER_HEAD, PAIRS, page, parts_in, whole};
 use checkpoint_code::PageFault;
 use saved_world::{LoadFault, Loading, save};
 use std::alloc::Global;
@@ -169,7 +169,7 @@ fn is_whole(alloc: Global, bytes: &[u8], head: &[u8], count: usize) -> bool {
         return false;
     };
     match whole(alloc, head, pairs) {
-        Ok(wanted) => bytes == wanted.as_slice(),
+        Ok(wanted) => parts_in(bytes) == wanted.as_slice(),
         Err(_) => false,
     }
 }

@@ -1,5 +1,5 @@
 //! Checkpoints of worlds, which are saved as the bytes by hand, and loaded again.
-use crate::by_hand::{EMPTY_HEAD, HEAD, PAIRS, Pair, whole};
+use crate::by_hand::{EMPTY_HEAD, HEAD, PAIRS, Pair, parts_in, whole};
 use crate::worlds::{FIRST, THIRD, finds, is_sound, mark, opened, worked};
 use lease::Lease;
 use reorganise::Work;
@@ -77,10 +77,10 @@ fn loaded(alloc: Global, bytes: &[u8]) -> Option<Checkpoint> {
     }
 }
 
-/// Whether a checkpoint is saved as these bytes.
+/// Whether a checkpoint is saved as these parts, beside marker and digest.
 pub(crate) fn is_saved_as(alloc: Global, checkpoint: &Checkpoint, bytes: &[u8]) -> bool {
     match saved(alloc, checkpoint) {
-        Some(saved) => saved.as_slice() == bytes,
+        Some(saved) => parts_in(saved.as_slice()) == bytes,
         None => false,
     }
 }

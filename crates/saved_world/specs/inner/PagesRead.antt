@@ -10,7 +10,7 @@ use Rattle.saved_world.specs.Loaded.{IsLoadOutOfMemory}
 use Rattle.saved_world.specs.Parts.{HasNoPart}
 use Rattle.saved_world.specs.Saved.{IsPageOf, pages_code, end_part, joined}
 use Rattle.saved_world.specs.declared.fault.LoadedFault.{LoadedFault}
-use Rattle.saved_world.specs.declared.fault.LoadedFault.TheVariants.{Cut, Trailing, Head as OfHead, Page as OfPage, Checkpoint as OfCheckpoint}
+use Rattle.saved_world.specs.declared.fault.LoadedFault.TheVariants.{Damaged, Cut, Trailing, Head as OfHead, Page as OfPage, Checkpoint as OfCheckpoint}
 
 abbrev pub with_pages : Loaded → List Page → Loaded
 with_pages loaded pages = with_page loaded (joined pages)
@@ -25,6 +25,7 @@ pub record AreReadTo (old : Loaded) (bytes : List ℕ) (now : Loaded) (rest : Li
 -- what reading them answers
 abbrev pub ArePagesRead : Loaded → List ℕ → Result (Unit {0}) LoadedFault → Loaded → Type 0
 ArePagesRead old bytes (Ok done) new = AreReadTo old bytes new end_part
+ArePagesRead old bytes (Err Damaged) new = ⊥
 ArePagesRead old bytes (Err Cut) new = (rest : List ℕ) × AreReadTo old bytes new rest × HasNoPart rest
 ArePagesRead old bytes (Err Trailing) new = (more : List ℕ) × AreReadTo old bytes new (end_part ++ more) × (more ≢ [])
 ArePagesRead old bytes (Err (OfPage fault)) new = (part more : List ℕ) × AreReadTo old bytes new (bytes_code part ++ more) × IsAdded new part (Err fault) new

@@ -1,6 +1,6 @@
 use Rattle.std.proofs.Common.{rules}
 use Rattle.saved_world.proofs.Backs.{no_head_so, no_pages, no_pages_so, loaded, loaded_so, no_checkpoint, no_checkpoint_so}
-use Rattle.saved_world.proofs.read.load.Goals as goal
+use Rattle.saved_world.proofs.read.load_parts.Goals as goal
 
 pub returns-in_err-loading-clause-accepted : goal.returns-in_err-loading-clause-accepted
 returns-in_err-loading-clause-accepted c =
