@@ -1,8 +1,5 @@
 -- The bytes of a checkpoint of a world are refused only when out of memory.
 use Rattle.std.proofs.Common.{◌≡◌, refl}
-use Rattle.checkpoint_check.specs.declared.fault.CheckpointFault.TheVariants as of_checkpoint
-use Rattle.checkpoint_code.specs.declared.fault.HeadFault.TheVariants as of_head
-use Rattle.checkpoint_code.specs.declared.fault.PageFault.TheVariants as of_page
 use Rattle.saved_world.specs.Loaded.{IsLoadOutOfMemory}
 use Rattle.saved_world.specs.declared.fault.LoadFault.TheVariants as of_load
 use Rattle.saved_world.specs.declared.fault.LoadedFault.{LoadedFault}
@@ -11,6 +8,7 @@ use Rattle.typed_calls.specs.Checkpoints.{load_status}
 use Rattle.typed_calls.specs.Statuses.{out_of_memory}
 
 pub out_of_memory_alone : (fault : LoadedFault) → IsLoadOutOfMemory fault → load_status fault ≡ out_of_memory
+out_of_memory_alone loaded.Damaged h = absurd h
 out_of_memory_alone loaded.Cut h = absurd h
 out_of_memory_alone loaded.Trailing h = absurd h
 out_of_memory_alone (loaded.Head fault) h = rw h refl

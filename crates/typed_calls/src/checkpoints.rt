@@ -21,7 +21,7 @@ pub fn checkpoint(world: &World) -> Result<Checkpoint, i32>
     }
 }
 
-/// The bytes of a checkpoint, as `saved_world::save` gives them. It takes time
+/// The bytes of a checkpoint with their digest, as `saved_world::save` gives them. It takes time
 /// and memory with the pairs. Refused only by `OUT_OF_MEMORY`.
 pub fn saved(alloc: Global, checkpoint: &Checkpoint) -> Result<List<u8>, i32>
     ensures { Saves checkpoint.now result }
@@ -57,8 +57,9 @@ pub fn world_at(alloc: Global, checkpoint: Checkpoint, furthest: u64) -> Bounded
     }
 }
 
-/// A world that opens at the checkpoint whose bytes these are. The bytes that `saved` gives for the
-/// checkpoint of a world are refused only when out of memory.
+/// A world that opens at the checkpoint whose bytes these are, also those of earlier releases, which
+/// have no digest. The bytes that `saved` gives for the checkpoint of a world are refused only when
+/// out of memory.
 ///
 /// - `furthest`: as for `world_at`.
 ///
