@@ -55,7 +55,7 @@ extern "C" {
 /* The version of this header: a thousand times the major one, and the minor one. A program that was
  * compiled with it works with each library of the same major version that has no lower minor
  * one. */
-#define CAGZHOMUL_VERSION 2000
+#define CAGZHOMUL_VERSION 2001
 
 /* The library's version. */
 uint32_t cagzhomul_version(void);
@@ -649,8 +649,9 @@ cagzhomul_pieced cagzhomul_commit_piece(cagzhomul_world_handle *world, uint64_t 
 int32_t cagzhomul_checkpoint(cagzhomul_world_handle *world,
                              cagzhomul_checkpoint_handle *checkpoint);
 
-/* Writes the bytes of a checkpoint into the closed handle `bytes`. It takes no world, so it needs
- * no lock of one, and time and memory with the pairs. The checkpoint stays.
+/* Writes the bytes of a checkpoint, with SHA-256 of them at the end, into the closed handle `bytes`.
+ * It takes no world, so it needs no lock of one, and time and memory with the pairs. The checkpoint
+ * stays.
  * CAGZHOMUL_OK. Refusals: CAGZHOMUL_ALREADY_OPEN, of `bytes`; CAGZHOMUL_CLOSED;
  * CAGZHOMUL_OUT_OF_MEMORY. */
 int32_t cagzhomul_save(cagzhomul_checkpoint_handle *checkpoint, cagzhomul_bytes_handle *bytes);
@@ -665,12 +666,33 @@ int32_t cagzhomul_open_checkpoint(cagzhomul_checkpoint_handle *checkpoint, uint6
 
 /* Opens a world in the closed handle, with a furthest jump, which goes on from the checkpoint that
  * these bytes are: places go on counting, and each call answers what it would answer in the world
- * of which it is the checkpoint. Bytes may come from anyone: they are tested, for which all pairs
- * are read.
+ * of which it is the checkpoint. Bytes may come from anyone: their digest is compared before all
+ * else, and then they are tested, for which all pairs are read. Bytes that an earlier release saved
+ * have no digest, and are opened, too; cagzhomul_saved_form tells them.
  * CAGZHOMUL_OK. Refusals: CAGZHOMUL_ALREADY_OPEN; CAGZHOMUL_BAD_CODE if no world may open from
  * these bytes, as they are damaged or forged; CAGZHOMUL_OUT_OF_MEMORY. */
 int32_t cagzhomul_open_at(cagzhomul_world_handle *world, const uint8_t *bytes, size_t length,
                           uint64_t furthest_jump);
+
+/* The form of saved bytes: 2 if SHA-256 of them is at their end, 1 if they do not begin as such
+ * bytes do, as those of releases before 2.1, and 0 if they begin so and have another digest: they
+ * are damaged. It says nothing more of them. It uses no handle, and refuses nothing. */
+uint32_t cagzhomul_saved_form(const uint8_t *bytes, size_t length);
+
+/* ---- log files: entries in a file, each with a digest, by which a program goes on after it was
+ * ended at any point (docs/DURABILITY.md); include/cagzhomul_log.h reads and writes such files */
+
+/* Writes the record of an entry of this place (the first is 1), as far as it fits in `out`; the bytes
+ * of `out` after it stay. It has 48 bytes more than the entry. It uses no handle.
+ * CAGZHOMUL_OK, with the length of the record. Refusal: CAGZHOMUL_OUT_OF_MEMORY. */
+cagzhomul_outcome cagzhomul_log_record(uint64_t place, const uint8_t *entry, size_t entry_length,
+                                       uint8_t *out, size_t out_length);
+
+/* Looks for the record of this place with which the bytes begin. It uses no handle and no memory.
+ * CAGZHOMUL_OK, with the length of its entry, which begins at byte 16; the next record begins 32
+ * bytes after it. Refusal: CAGZHOMUL_BAD_CODE if the bytes begin with no whole record of this
+ * place. */
+cagzhomul_outcome cagzhomul_log_entry(uint64_t place, const uint8_t *bytes, size_t length);
 
 /* ---- what a refusal is for, by codes in bytes: no handle, no lock, and nothing changes */
 

@@ -6,6 +6,7 @@
 mod changes;
 mod closes;
 mod faults;
+mod files;
 mod layer;
 mod logs;
 mod pages;
