@@ -2,6 +2,7 @@
 
 import contextlib
 import doctest
+import tempfile
 import time
 import unittest
 from typing import Optional
@@ -16,7 +17,7 @@ TABLES = {"people": {"id": "int key", "town": "text"}}
 
 def in_memory(test: doctest.DocTest) -> None:
     db = cagzhomul.open(TABLES)
-    test.globs.update(cagzhomul=cagzhomul, contextlib=contextlib, time=time, db=db, lease=db.lease(0))
+    test.globs.update(cagzhomul=cagzhomul, contextlib=contextlib, tempfile=tempfile, time=time, db=db, lease=db.lease(0))
 
 
 def over_a_store(test: doctest.DocTest) -> None:

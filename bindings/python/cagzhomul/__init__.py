@@ -34,7 +34,7 @@ from ._library import text_of
 from ._errors import (
     CagzhomulError, NotPublic, TooEarly, StillUsed, Dependent, Unfinished, Duplicate, NoRow, BadLine, Closed, AlreadyOpen, NotUtf8, OutOfMemory, NotOpened,
     NoEntry, BadEntry, BadCount, MomentTooLarge, VersionsSpent, TooFar, WrongStage, BadCode, BadTable, BadLength, NoTable, WrongType, TooManyOps, BadLease,
-    LeaseEnded, WrongSchema, Conflict, Unknown, NameTaken, OverLimit, StillIndexed, InChange, NotAdjacent, WrongWay, NotWanted, Begun, BadPiece, Spent,
+    LeaseEnded, WrongSchema, Conflict, BadLog, Unknown, NameTaken, OverLimit, StillIndexed, InChange, NotAdjacent, WrongWay, NotWanted, Begun, BadPiece, Spent,
     WrongElement, Moved, StillWaiting, UnexpectedReply,
 )
 from ._values import Value, Key, Row, Clock, Moment, Kind, literal
@@ -51,16 +51,17 @@ from ._lease import Lease
 from ._txn import Txn, retry
 from ._piece import Piece
 from ._open import open
+from ._log import LogFile, has_digest, recover
 
 __all__ = [
-    "Abandon", "Acted", "AddColumn", "AddIndex", "AlreadyOpen", "Audit", "BadCode", "BadCount", "BadEntry", "BadLease", "BadLength", "BadLine", "BadPiece",
+    "Abandon", "Acted", "AddColumn", "AddIndex", "AlreadyOpen", "Audit", "BadCode", "BadCount", "BadEntry", "BadLease", "BadLength", "BadLine", "BadLog", "BadPiece",
     "BadTable", "Begun", "CagzhomulError", "Change", "Clock", "Closed", "Conflict", "Db", "Dependent", "DropColumn", "DropIndex", "Duplicate", "InChange",
-    "Key", "Kind", "Lease", "LeaseEnded", "Moment", "MomentTooLarge", "Move", "Moved", "NameTaken", "NoEntry", "NoRow", "NoTable", "NotAdjacent",
+    "Key", "Kind", "Lease", "LeaseEnded", "LogFile", "Moment", "MomentTooLarge", "Move", "Moved", "NameTaken", "NoEntry", "NoRow", "NoTable", "NotAdjacent",
     "NotOpened", "NotPublic", "NotUtf8", "NotWanted", "OutOfMemory", "OverLimit", "Piece", "PlannedStep", "Progress", "Query", "Receipt",
     "Reorganisation", "Row", "Schema", "SchemaColumn", "SchemaElement", "SchemaIndex", "SchemaTable", "Session", "Snapshot", "Spent", "Step", "StillIndexed",
     "StillUsed", "StillWaiting", "Table", "Tables", "TooEarly", "TooFar", "TooManyOps", "Txn",
     "UnexpectedReply", "Unfinished", "Unknown", "Value", "VersionsSpent", "Waiting", "Worked", "WrongElement", "WrongSchema", "WrongStage",
-    "WrongType", "WrongWay", "literal", "open", "retry", "text_of",
+    "WrongType", "WrongWay", "has_digest", "literal", "open", "recover", "retry", "text_of",
 ]
 
 

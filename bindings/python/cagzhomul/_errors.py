@@ -23,6 +23,16 @@ class CagzhomulError(Exception):
         return type(self), self._parts(), vars(self)
 
 
+class BadLog(CagzhomulError):
+    """A log file does not go on from the checkpoint that is before it: entries are missing, or are of another store."""
+
+    def __init__(self, text: str) -> None:
+        super().__init__(-1, text)
+
+    def _parts(self) -> Tuple[Any, ...]:
+        return (str(self),)
+
+
 class NotPublic(CagzhomulError):
     """A named column is not a public column of its table in the lease's version: `column` is its name,
     and `is_key` is whether it is a key column, which is given by the key alone."""

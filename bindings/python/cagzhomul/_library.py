@@ -77,6 +77,7 @@ _FUNCTIONS: Dict[str, Tuple[Any, List[Any]]] = {
     "advance": (_Advanced, [_WORLD, _NUMBER, _SMALL, _SMALL]), "due_entry": (_Advanced, [_WORLD, _NUMBER, _SMALL, _SMALL, _HELD]),
     "read_piece": (_STATUS, [_WORLD, _SMALL, _SMALL, _SMALL, _PIECE]), "prepare_piece": (_STATUS, [_PIECE, _PREPARED]), "commit_piece": (_Pieced, [_WORLD, _NUMBER, _PREPARED]),
     "checkpoint": (_STATUS, [_WORLD, _CHECKPOINT]), "save": (_STATUS, [_CHECKPOINT, _HELD]),
+    "saved_form": (_SMALL, _CODE), "log_record": (_Outcome, [_NUMBER, *_CODE, *_CODE]), "log_entry": (_Outcome, [_NUMBER, *_CODE]),
     "txn_fault": (_ValueFault, [*_CODE, *_CODE]), "query_fault": (_ValueFault, [*_CODE, *_CODE]), "opening_fault": (_TableFault, _CODE),
     "session_open": (_STATUS, [_SESSION]), "session_attach": (_STATUS, [_SESSION]),
     "reply_to": (_Outcome, [_SESSION, _WORLD, *_CODE, *_CODE]), "reply_from": (_Outcome, [_SESSION, _SIZE, *_CODE]), "bytes_from": (_Outcome, [_HELD, _SIZE, *_CODE]),
