@@ -1,5 +1,7 @@
-/* The bytes of a checkpoint, from anywhere. Of a small one each byte is changed, to nine other values, and it is cut at each place:
-   cagzhomul_open_at refuses what it is given, or opens a world in which an audit finds nothing missing and nothing extra. What it takes
+/* The bytes of a checkpoint, from anywhere. Of a small one each bit is flipped, it is cut at each place, and a byte is added:
+   cagzhomul_open_at refuses each. Of its parts without their digest, as earlier releases wrote them, each byte is changed, to nine other
+   values, and they are cut at each place: it refuses what it is given, or opens a world in which an audit finds nothing missing and nothing
+   extra. What it takes
    of memory at once is at most FACTOR times the length of the bytes and BASE bytes more, whatever they are; and of ten times as many rows
    it takes at most eleven times as much, in between nine and eleven times as many allocations.
    It prints how many were tried and opened, and the most memory a byte; it ends with 0 if all was so. */
@@ -9,7 +11,7 @@
 #include <stdlib.h>
 #include <string.h>
 
-enum { ROOM = 256, SMALL = 5, ROWS = 1000, FACTOR = 16, BASE = 4096 };
+enum { ROOM = 256, SMALL = 5, ROWS = 1000, FACTOR = 16, BASE = 4096, BEFORE = 8, BEHIND = 32 };
 
 void *__real_malloc(size_t);
 void *__real_calloc(size_t, size_t);
@@ -79,7 +81,7 @@ static uint8_t *bytes_of(cagzhomul_world_handle *world, size_t *length) {
     uint8_t none[1] = {0};
     demand(cagzhomul_checkpoint(world, &checkpoint) == CAGZHOMUL_OK && cagzhomul_save(&checkpoint, &written) == CAGZHOMUL_OK, "it is written");
     *length = cagzhomul_bytes_from(&written, 0, none, 0).length;
-    uint8_t *bytes = malloc(*length);
+    uint8_t *bytes = calloc(*length + 1, 1);
     demand(bytes && cagzhomul_bytes_from(&written, 0, bytes, *length).length == *length, "it is read");
     demand(cagzhomul_close_checkpoint(&checkpoint) == CAGZHOMUL_OK && cagzhomul_close_bytes(&written) == CAGZHOMUL_OK, "both are closed");
     return bytes;
@@ -108,6 +110,19 @@ static int opens(const uint8_t *bytes, size_t length) {
     demand(it.status == CAGZHOMUL_OK && it.missing == 0 && it.extra == 0, "what opens is sound");
     demand(cagzhomul_close_world(&later) == CAGZHOMUL_OK && live == before, "and gives all its memory back");
     return 1;
+}
+
+/* Each bit of bytes with their digest is flipped, they are cut at each place, and a byte is added. */
+static void try_damaged(uint8_t *bytes, size_t length) {
+    for (size_t at = 0; at < 8 * length; at++) {
+        bytes[at / 8] ^= (uint8_t)(1 << at % 8);
+        demand(!opens(bytes, length), "no flipped bit opens");
+        demand(cagzhomul_saved_form(bytes, length) == (at < 64 ? 1 : 0), "the form is told");
+        bytes[at / 8] ^= (uint8_t)(1 << at % 8);
+    }
+    for (size_t at = 0; at < length; at++) demand(!opens(bytes, at), "no part of them opens");
+    demand(!opens(bytes, length + 1), "nothing may follow them");
+    demand(opens(bytes, length) && cagzhomul_saved_form(bytes, length) == 2, "the whole ones open");
 }
 
 /* Each byte is changed to its neighbours, to bounds and with each half turned; and the bytes are cut at each place, and go on after their end. */
@@ -147,7 +162,9 @@ int main(void) {
     double memory, allocations, of_more, made_of_more;
     make_world(&world, SMALL);
     uint8_t *bytes = bytes_of(&world, &length);
-    try_changed(bytes, length);
+    try_damaged(bytes, length);
+    demand(cagzhomul_saved_form(bytes + BEFORE, length - BEFORE - BEHIND) == 1, "parts without a digest are told");
+    try_changed(bytes + BEFORE, length - BEFORE - BEHIND);
     free(bytes);
     demand(cagzhomul_close_world(&world) == CAGZHOMUL_OK, "the world is closed");
     weigh(ROWS, &memory, &allocations);

@@ -259,8 +259,8 @@ impl Db {
         self.session.line(line)
     }
 
-    /// Audits all pairs of the store, under its lock; [`Snapshot::check`](crate::Snapshot::check)
-    /// does without.
+    /// Audits all pairs of the store, as they are at one moment, which takes time with their number;
+    /// other threads write meanwhile.
     ///
     /// Refusals: [`Error::Closed`], [`Error::OutOfMemory`].
     ///
@@ -271,7 +271,9 @@ impl Db {
     /// # Ok::<(), cagzhomul::Error>(())
     /// ```
     pub fn check(&self) -> Result<Check, Error> {
-        Check::found(self.session.world()?.check())
+        let fork = self.session.fork()?;
+        let audited = fork.world()?.check();
+        Check::found(audited)
     }
 
     /// The session, which has the lines, and the calls for replicas.

@@ -189,6 +189,15 @@ unsafe extern "C" {
     pub(crate) fn cagzhomul_check(world: *mut RawWorld) -> Checked;
     pub(crate) fn cagzhomul_checkpoint(world: *mut RawWorld, checkpoint: *mut RawCheckpoint)
         -> i32;
+    pub(crate) fn cagzhomul_saved_form(bytes: *const u8, length: usize) -> u32;
+    pub(crate) fn cagzhomul_log_record(
+        place: u64,
+        entry: *const u8,
+        entry_length: usize,
+        out: *mut u8,
+        out_length: usize,
+    ) -> Outcome;
+    pub(crate) fn cagzhomul_log_entry(place: u64, bytes: *const u8, length: usize) -> Outcome;
     pub(crate) fn cagzhomul_save(checkpoint: *mut RawCheckpoint, bytes: *mut RawBytes) -> i32;
     pub(crate) fn cagzhomul_schema(world: *mut RawWorld, bytes: *mut RawBytes) -> i32;
     pub(crate) fn cagzhomul_plan(

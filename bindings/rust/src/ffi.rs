@@ -422,6 +422,25 @@ pub(crate) fn opening_fault(opening: &[u8]) -> TableFault {
     unsafe { cagzhomul_opening_fault(opening.as_ptr(), opening.len()) }
 }
 
+/// The form of saved bytes: 0 damaged, 1 without a digest, 2 with the right one.
+pub(crate) fn saved_form(bytes: &[u8]) -> u32 {
+    // SAFETY: the slice, as at the top of this file.
+    unsafe { cagzhomul_saved_form(bytes.as_ptr(), bytes.len()) }
+}
+
+/// Writes the record of an entry.
+pub(crate) fn log_record(place: u64, entry: &[u8], out: &mut [u8]) -> Outcome {
+    let (at, room) = (out.as_mut_ptr(), out.len());
+    // SAFETY: both slices, as at the top of this file.
+    unsafe { cagzhomul_log_record(place, entry.as_ptr(), entry.len(), at, room) }
+}
+
+/// Looks for the record of this place with which the bytes begin.
+pub(crate) fn log_entry(place: u64, bytes: &[u8]) -> Outcome {
+    // SAFETY: the slice, as at the top of this file.
+    unsafe { cagzhomul_log_entry(place, bytes.as_ptr(), bytes.len()) }
+}
+
 /// The library's version.
 pub(crate) fn version() -> u32 {
     // SAFETY: it takes nothing.

@@ -39,7 +39,8 @@ impl Grant {
         self.names.schema()
     }
 
-    /// The rows of a query of the store of this session under it.
+    /// The rows of a query of the store of this session under it. The store is locked while one row at
+    /// most is looked for by its key, or while a snapshot is taken, from which all else is answered.
     pub(crate) fn find(
         &self,
         session: &Session,
@@ -48,10 +49,21 @@ impl Grant {
     ) -> Result<Vec<Row>, Error> {
         find(query, &self.names, |code, rows| {
             let mut world = session.world()?;
+            let mut taken = SnapshotHandle::closed();
+            if !query.is_by_key() && self.takes(&mut world, now, &mut taken) {
+                drop(world);
+                return Ok(taken.query(code, rows));
+            }
             let queried = world.query(now, &mut self.lock(), code, rows);
             self.in_force(&mut world, now, queried.status)?;
             Ok(queried)
         })
+    }
+
+    /// Whether a snapshot of this world is taken under it into a closed handle. If not, a query is refused,
+    /// too, or memory ran out.
+    fn takes(&self, world: &mut WorldHandle, now: u64, taken: &mut SnapshotHandle) -> bool {
+        world.snapshot(now, &mut self.lock(), taken) == ffi::OK
     }
 
     /// Whether a call of this world under it, with this status, was not refused since it has ended.
@@ -223,7 +235,9 @@ impl<'db> Lease<'db> {
         self.find(now, &*self.db.session().read(&query.into())?)
     }
 
-    /// The rows of a query, by rising primary key.
+    /// The rows of a query, by rising primary key, all as they are at one moment. They are no part of a
+    /// transaction: an update made from what they hold may undo that of another thread that comes
+    /// between; [`modify`](Lease::modify) changes a row by what it holds.
     ///
     /// Refusals: [`Error::Closed`], [`Error::TooFar`], [`Error::MomentTooLarge`],
     /// [`Error::BadLease`], [`Error::LeaseEnded`], [`Error::NoTable`]; of the first faulty column or
@@ -260,6 +274,11 @@ impl<'db> Lease<'db> {
     ) -> Result<Page, Error> {
         find_page(query, range, limit, self.names(), |code, rows| {
             let mut world = self.db.session().world()?;
+            let mut taken = SnapshotHandle::closed();
+            if self.grant.takes(&mut world, now, &mut taken) {
+                drop(world);
+                return Ok(taken.query_page(code, rows));
+            }
             let paged = world.query_page(now, &mut self.lock(), code, rows);
             self.grant.in_force(&mut world, now, paged.status)?;
             Ok(paged)

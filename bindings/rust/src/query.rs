@@ -61,6 +61,12 @@ pub struct Query {
 }
 
 impl Query {
+    /// Whether it names a key, which one row has at most.
+    pub(crate) fn is_by_key(&self) -> bool {
+        let mut conditions = self.conditions.iter();
+        conditions.any(|it| matches!(it, Condition::Key(_)))
+    }
+
     /// All rows of this table, with all of its public columns.
     pub fn of(table: impl Into<String>) -> Query {
         Query {
