@@ -93,7 +93,8 @@ class MomentTooLarge(CagzhomulError): """The moment is above 2^62."""
 class VersionsSpent(CagzhomulError): """A publication is due, and there are 1,000,000 versions."""
 class TooFar(CagzhomulError): """The moment is more beyond that of the log's last entry than the world's furthest jump."""
 class WrongStage(CagzhomulError):
-    """The transaction, or the piece, is not at the call's stage: it is prepared already, or not yet."""
+    """The transaction, or the piece, is not at the call's stage: it is prepared already, or not yet, or the
+    transaction was committed."""
 
     def __init__(self, status: int = -1, text: str = "the work is not at the stage that the call takes") -> None:
         super().__init__(status, text)

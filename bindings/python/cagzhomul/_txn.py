@@ -28,7 +28,8 @@ _Result = TypeVar("_Result")
 
 class Txn(_Owner):
     """Operations under a lease, of which all are committed or none, at most 64, by `Lease.txn`. At
-    the end of a `with` block it is committed, unless the block raised an exception.
+    the end of a `with` block it is committed, unless the block raised an exception. It ends with its
+    commit or write: each later call but `close` is refused as WrongStage.
 
     Tables and columns are given by name, and a row by its primary key: one value, or a tuple or list
     of them. None is no value, and in a column with a default the default. An int is of 64 bits.
@@ -60,8 +61,8 @@ class Txn(_Owner):
         accepted. A second call for a row gives the same answer. A row that is got and not written counts
         as an operation, or as two if it is not there.
 
-        Raises WrongStage if it is prepared, or has got rows and has ended; Closed; NoTable or WrongType,
-        but a text that is too long is WrongType before all; OutOfMemory.
+        Raises WrongStage if it is committed or prepared, or has got rows and has ended; Closed; NoTable or
+        WrongType, but a text that is too long is WrongType before all; OutOfMemory.
 
         >>> lease.insert("people", 1, town="Ulm")
         Receipt(place=2)
@@ -93,13 +94,19 @@ class Txn(_Owner):
         return _number(self._lease._names.tables.get(table, 0), 4) + _key(key)
 
     def _check_stage(self) -> None:
-        """Refuses more reads and operations if it is prepared, or if what it has got is let go."""
+        """Refuses more reads and operations if it is committed or prepared, or if what it has got is let go."""
+        self._check_uncommitted()
         if (self._is_prepared if self._reads.is_open else bool(self._got)):
             raise WrongStage()
 
+    def _check_uncommitted(self) -> None:
+        """Refuses what comes after its commit or write."""
+        if self.receipt is not None:
+            raise WrongStage(text=f"the transaction was committed, at place {self.receipt.place}: begin another one")
+
     def insert(self, table: str, key: Key, /, **cells: Value) -> Txn:
         """Adds the insertion of a row: its key, and values by column. Raises WrongStage, as all three do, if
-        it is prepared, or has got rows and has ended."""
+        it is committed or prepared, or has got rows and has ended."""
         return self._add(0, table, key, cells)
 
     def update(self, table: str, key: Key, /, **cells: Value) -> Txn:
@@ -239,6 +246,7 @@ class Txn(_Owner):
 
         self._prepare_first()
         with self._lock:
+            self._check_uncommitted()
             try:
                 return self._received(*self._asked(ask))
             finally:
@@ -269,6 +277,7 @@ class Txn(_Owner):
 
         self._prepare_first()
         with self._lock, _held(code):
+            self._check_uncommitted()
             done, pair = self._asked(ask)
             if done.status != _OK:
                 self._end()
