@@ -18,15 +18,18 @@ def _whole(name: str, number: int, bits: int) -> int:
     if isinstance(number, bool) or not isinstance(number, int):
         raise TypeError(f"{name} is an int, and not {type(number).__name__}")
     if not 0 <= number < 1 << bits:
-        raise _OutOfRange(f"{name} is from 0 to 2**{bits} - 1, and not {number}")
+        raise _OutOfRange(f"{name} is from 0 to 2**{bits} - 1, and not {_shown(number)}")
     return number
+
+
+def _shown(number: int) -> str:
+    """A number as a message has it; one that is too long to be written is told by its length."""
+    return str(number) if number.bit_length() < 1000 else f"a number of {number.bit_length():,} bits"
 
 
 def _jump(furthest_jump: Optional[int]) -> int:
     """A furthest jump as the library takes it."""
-    if furthest_jump is not None and _whole("furthest_jump", furthest_jump, 64) == 0:
-        raise _OutOfRange("furthest_jump is at least 1, and not 0")
-    return _ANY_JUMP if furthest_jump is None else furthest_jump
+    return _ANY_JUMP if furthest_jump is None else _whole("furthest_jump", furthest_jump, 64)
 
 
 def _small(name: str, number: int) -> int:

@@ -6,10 +6,10 @@ import itertools
 import re
 import threading
 import time
-from typing import Iterator, List, Mapping, Optional, Sequence, Tuple, Union
+from typing import Iterable, Iterator, List, Optional, Sequence, Tuple, Union
 
 from ._arguments import _at, _jump, _small, _whole
-from ._changes import Change, PlannedStep, _change, _Parts, _planned
+from ._changes import Change, PlannedStep, _change, _over_limit, _Parts, _planned
 from ._codes import _list
 from ._errors import (
     BadCode, BadLease, BadLine, BadTable, CagzhomulError, Closed, InChange, LeaseEnded, NameTaken, OverLimit, StillIndexed, StillWaiting, TooEarly, Unknown,
@@ -23,7 +23,7 @@ from ._results import Acted, Step, Waiting
 from ._schema import _schema
 from ._session import Session
 from ._snapshot import Snapshot
-from ._tables import Tables, _bad_table, _opening, _table
+from ._tables import Tables, _bad_table, _declared, _opening
 from ._values import Clock, Moment, Row
 from ._words import _change_of, _query_of, _words_of
 
@@ -52,7 +52,7 @@ class Db(Session):
 
     def __init__(self, tables: Tables, lease_length: int = 10, keep: Optional[int] = 10_000, at: Optional[bytes] = None, furthest_jump: Optional[int] = None) -> None:
         """Opens it, as `open` does."""
-        declared = [_table(*it) for it in tables.items()] if isinstance(tables, Mapping) else list(tables)
+        declared = _declared(tables)
         opening = _opening(_whole("lease_length", lease_length, 64), declared)
         try:
             super().__init__(opening, at, _jump=_jump(furthest_jump))
@@ -175,6 +175,8 @@ class Db(Session):
         >>> len(steps), steps[2].before
         (3, (Reorganisation(work='fill', element=2),))
         """
+        if isinstance(changes, (str, bytes)) or not isinstance(changes, Iterable):
+            raise TypeError(f"changes is a list of changes, and not {type(changes).__name__}")
         parts = [_change(change) for change in changes]
         with self._lock:
             return self._plan(parts)
@@ -184,6 +186,8 @@ class Db(Session):
         code = b"\1" + _list([change.code(self._names) for change in changes])
         try:
             return _planned(self._written(lambda out, room: _library.cagzhomul_plan(self._world, code, len(code), out, room)))
+        except OverLimit:
+            raise _over_limit(changes) from None
         except CagzhomulError as refusal:
             if refusal.status == _DEPENDENT:
                 raise StillIndexed(_DEPENDENT, "an index is on the column") from None

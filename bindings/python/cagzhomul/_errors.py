@@ -25,15 +25,20 @@ class CagzhomulError(Exception):
 
 class NotPublic(CagzhomulError):
     """A named column is not a public column of its table in the lease's version: `column` is its name,
-    and `is_key` is whether it is a key column, which is given by the key alone."""
+    and `is_key` is whether it is a key column. These are in each row that is found, no update changes them,
+    and a row is found by the whole key: `key = (1)` in words, or `Query("people", key=1)`."""
 
     def __init__(self, column: Optional[str], is_key: bool = False) -> None:
         named = f": {column}" if column else ""
-        super().__init__(_NOT_PUBLIC, text_of(_NOT_PUBLIC) + named + (", which is a key column" if is_key else ""))
+        super().__init__(_NOT_PUBLIC, text_of(_NOT_PUBLIC) + named + (_KEY_COLUMN if is_key else ""))
         self.column, self.is_key = column, is_key
 
     def _parts(self) -> Tuple[Any, ...]:
         return self.column, self.is_key
+
+
+# what a NotPublic says of a key column
+_KEY_COLUMN = ", which is a key column: each row found has it, and is found by its whole key, as `key = (1)` in words, or `Query(.., key=1)`"
 
 
 class _RowRefusal(CagzhomulError):
@@ -167,7 +172,9 @@ class Conflict(CagzhomulError):
 
 class Unknown(CagzhomulError): """A change names what is not there, or abandons what is not being added."""
 class NameTaken(CagzhomulError): """A change adds a name that is taken."""
-class OverLimit(CagzhomulError): """A name, a list, a default or a count of a change is over its limit."""
+class OverLimit(CagzhomulError):
+    """A name, a list, a default or a count of a change is over its limit; or a default is of another type than
+    its column, as the text then says."""
 class StillIndexed(CagzhomulError): """A change drops a column that an index is on."""
 class InChange(CagzhomulError): """A change is of something that another change is under way for."""
 class NotAdjacent(CagzhomulError): """No move joins the two states of a step's element."""

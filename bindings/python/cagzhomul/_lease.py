@@ -13,6 +13,7 @@ from ._library import _CLOSED, _LEASE_ENDED, _OK, _BytesHandle, _code_of, _held,
 from ._names import _cells, _Names
 from ._owner import _Owner
 from ._queries import Query, _Asked, _asked
+from ._refused import _UNCODED
 from ._results import Receipt
 from ._rows import _found, _ranged
 from ._schema import Schema, _schema
@@ -126,9 +127,12 @@ class Lease(_Grant):
     def _write(self, kind: int, table: str, key: Key, cells: Optional[Mapping[str, Value]]) -> Receipt:
         """Writes one operation by a transaction of its own, which is made only if it is refused, to say why."""
         names, db, moment = self._names, self._db, _at(self._now)
-        code = _one_operation(1, 1, kind, names.tables.get(table, 0)) + _key(key)
-        if cells is not None:
-            code += _cells(names, table, cells)
+        try:
+            code = _one_operation(1, 1, kind, names.tables.get(table, 0)) + _key(key)
+            if cells is not None:
+                code += _cells(names, table, cells)
+        except _UNCODED as error:
+            raise names.no_code(error, table, key, cells) from None
         with self._lock, db._lock:
             done = _library.cagzhomul_write(db._world, moment, self._handle, code, len(code))
             if done.status == _OK:

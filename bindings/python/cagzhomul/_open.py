@@ -6,6 +6,7 @@ from typing import Optional, overload
 
 from ._arguments import _jump
 from ._db import Db
+from ._refused import _bytes
 from ._session import Session
 from ._tables import Tables
 
@@ -26,19 +27,21 @@ def open(tables: Optional[Tables] = None, lease_length: int = 10, keep: Optional
     keys count, are to be those that were opened then, and the lease length is the checkpoint's. Raises
     BadCode if no world may open from the bytes, then BadTable if its tables are others.
 
-    With a `furthest_jump`, of at least 1, a call with a moment that is more than so many moments beyond
-    that of the log's last entry is refused as TooFar, so that a clock that is far ahead does not take
-    all others along. Before the first entry no moment is too far. It is no part of a checkpoint, and
+    With a `furthest_jump` a call with a moment that is more than so many moments beyond that of the log's
+    last entry is refused as TooFar, so that a clock that is far ahead does not take all others along; with
+    0 each later moment is. Before the first entry no moment is too far. It is no part of a checkpoint, and
     all replicas of one log have the same. A session whose world is opened by its line `open` has none.
 
-    Raises BadTable, BadLength or OutOfMemory, and ValueError for another type, and for a furthest jump
-    without tables and `at`.
+    Raises BadTable, BadLength or OutOfMemory; ValueError for another type of a column, and for a furthest
+    jump without tables and `at`; TypeError for tables, columns or bytes that are none.
 
     >>> with cagzhomul.open([Table("shop", {"city": str, "number": int}, {"open": bool}, {"by_open": ["open"]})], lease_length=1000) as db:
     ...     with db.lease(0) as lease:
     ...         lease.until, lease.insert("shop", ("Ulm", 7), open=True), lease.query(0, "select open from shop")
     (1000, Receipt(place=2), [{'city': 'Ulm', 'number': 7, 'open': True}])
     """
+    if at is not None:
+        _bytes("at", at)
     if tables is not None:
         return Db(tables, lease_length, keep, at, furthest_jump)
     jump = _jump(furthest_jump)

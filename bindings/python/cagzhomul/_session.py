@@ -11,6 +11,7 @@ from ._errors import NotOpened, Unknown, _check, _number_of
 from ._library import _FINISHED, _NOT_NEXT, _OK, _ROOM, _WAITING, _BytesHandle, _CheckpointHandle, _code_of, _held, _library, _SessionHandle, _WorldHandle
 from ._owner import _Audited
 from ._piece import Piece
+from ._refused import _bytes, _encoded
 from ._results import Acted, Progress, Step, Waiting
 from ._schema import Schema, _schema
 from ._values import Moment
@@ -62,7 +63,9 @@ class Session(_Audited):
         >>> db.reply_to("lease a at 5"), db.reply_to("commit w at 5")
         ('ok lease 1 5 15\\n', 'refused NoWork\\n')
         """
-        words = line.encode() if isinstance(line, str) else line
+        words = _encoded("line", line) if isinstance(line, str) else line
+        if not isinstance(words, bytes):
+            raise TypeError(f"line is a str or bytes, and not {type(line).__name__}")
         with self._lock:
             outcome = _library.cagzhomul_reply_to(self._lines, self._world, words, len(words), self._out, _ROOM)
             _check(outcome.status)
@@ -128,6 +131,7 @@ class Session(_Audited):
         WrongWay, Dependent, NameTaken, OverLimit, Unfinished, VersionsSpent or OutOfMemory.
         """
         moment = _at(now)
+        _bytes("step", step)
         with self._lock:
             return self._publish(moment, step)
 
@@ -241,10 +245,16 @@ class Session(_Audited):
     def repeat(self, entry: bytes) -> bool:
         """Repeats an entry of another session's log, given by its code, in this session's world.
 
+        It is for a replica, to which one source gives all entries in their order. A world in which others
+        write as well loses their updates: an entry does not say what was read for it. Who asks for the
+        entry of a transaction here, and repeats it here, has a lock of its own over both, which all
+        writers take.
+
         False if no accepted call of this world would add the entry, as of one whose moment is too far.
         Raises Closed, NotOpened, BadEntry or OutOfMemory. In each of these cases the session is as it
         was.
         """
+        _bytes("entry", entry)
         with self._lock:
             status = _library.cagzhomul_repeat(self._opened(), entry, len(entry))
             self._is_newer |= status == _OK

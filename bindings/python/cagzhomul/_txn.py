@@ -16,6 +16,7 @@ from ._library import (
 from ._names import _cells
 from ._owner import _Owner
 from ._queries import Query, _asked, _query
+from ._refused import _UNCODED
 from ._results import Receipt
 from ._rows import _found
 from ._values import Key, Moment, Row, Value
@@ -91,7 +92,10 @@ class Txn(_Owner):
 
     def _row(self, table: str, key: Key) -> bytes:
         """The code of a row; 0 is no table."""
-        return _number(self._lease._names.tables.get(table, 0), 4) + _key(key)
+        try:
+            return _number(self._lease._names.tables.get(table, 0), 4) + _key(key)
+        except _UNCODED as error:
+            raise self._lease._names.no_code(error, table, key) from None
 
     def _check_stage(self) -> None:
         """Refuses more reads and operations if it is committed or prepared, or if what it has got is let go."""
@@ -120,8 +124,10 @@ class Txn(_Owner):
     def _add(self, kind: int, table: str, key: Key, cells: Optional[Mapping[str, Value]]) -> Txn:
         names, row = self._lease._names, self._row(table, key)
         code = bytes([kind]) + row
-        if cells is not None:
-            code += _cells(names, table, cells)
+        try:
+            code += b"" if cells is None else _cells(names, table, cells)
+        except _UNCODED as error:
+            raise names.no_code(error, table, key, cells) from None
         with self._lock:
             self._check_stage()
             self._operations.append(code)
@@ -256,7 +262,9 @@ class Txn(_Owner):
         """The code of the entry that `commit` would add now, at this moment or its own, and prepares it
         first if it is not; nothing changes. `Session.repeat` of it in a world that stands here, this one
         or that of a replica, does what the commit would. It has what the transaction writes, and not
-        what it has read: if another entry comes first, the transaction is to be made again.
+        what it has read: if another entry comes first, the transaction is to be made again. `repeat`
+        does not notice that, and writes over what came between. So only a program that has all writers of
+        the log behind a lock of its own, from `entry` up to `repeat`, may use the two; all others `commit`.
 
         It may be asked again, or committed, and takes no more operations. After a refusal it is as after
         one of `commit`. At the end of a `with` block it would be committed: close it if it is only asked.
