@@ -6,6 +6,7 @@ import contextlib
 import ctypes
 import ctypes.util
 import os
+import sys
 from typing import Any, Dict, Iterator, List, Tuple, TypeVar
 
 # the major version of the library
@@ -13,7 +14,7 @@ _MAJOR = 2
 # how much room an answer is given at first, and the statuses that are looked at
 _ROOM, _OK, _BAD_LINE, _CLOSED, _NOT_NEXT, _WAITING, _FINISHED = 4096, 0, 1, 2, 9, 10, 11
 _BAD_CODE, _BAD_TABLE, _NOT_PUBLIC, _WRONG_TYPE, _LEASE_ENDED, _CONFLICT, _DUPLICATE, _NO_ROW = 17, 18, 21, 22, 26, 28, 29, 30
-_DEPENDENT, _OVER_LIMIT = 35, 37
+_OUT_OF_MEMORY, _DEPENDENT, _OVER_LIMIT = 5, 35, 37
 # only a text over 1,024 bytes makes a bad code of the operations and queries that the package writes
 _OF_A_VALUE = _BAD_CODE, _WRONG_TYPE
 
@@ -138,7 +139,13 @@ def text_of(status: int) -> str:
 def _code_of(held: _BytesHandle) -> bytes:
     """The bytes that a handle holds."""
     out = ctypes.create_string_buffer(_ROOM)
-    length = _library.cagzhomul_bytes_from(held, 0, out, _ROOM).length
+    length = int(_library.cagzhomul_bytes_from(held, 0, out, _ROOM).length)
+    if length > _ROOM and sys.implementation.name == "cpython":
+        # new bytes, which nobody else has yet, are written in place while other threads go on: a copy would keep the
+        # interpreter from them for as long as it takes
+        code = bytes(length)
+        _library.cagzhomul_bytes_from(held, 0, code, length)
+        return code
     if length > _ROOM:
         out = ctypes.create_string_buffer(length)
         _library.cagzhomul_bytes_from(held, 0, out, length)

@@ -39,6 +39,10 @@ class _Asked(NamedTuple):
     columns: Optional[Sequence[str]]
     conditions: List[_Condition]
 
+    def is_by_key(self) -> bool:
+        """Whether it names a key, which one row has at most."""
+        return any(it.kind == b"\0" for it in self.conditions)
+
 
 def _bounds(column: str, low: Optional[bytes], high: Optional[bytes]) -> _Condition:
     """That a column is between two values, by their codes, of which None is no bound."""

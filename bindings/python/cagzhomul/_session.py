@@ -31,10 +31,7 @@ class Session(_Audited):
         self._out = ctypes.create_string_buffer(_ROOM)
         self._furthest_jump: int = _jump if _forked is None else _forked._furthest_jump
         if _forked is not None:
-            with _held(_CheckpointHandle()) as taken:
-                with _forked._lock:
-                    _check(_library.cagzhomul_checkpoint(_forked._opened(), taken))
-                _check(_library.cagzhomul_open_checkpoint(taken, self._furthest_jump, self._world))
+            _forked._fork_into(self._world)
         elif _checkpoint is not None:
             _check(_library.cagzhomul_open_at(self._world, _checkpoint, len(_checkpoint), self._furthest_jump))
         elif _opening_code:
@@ -51,8 +48,17 @@ class Session(_Audited):
             raise NotOpened()
         return self._world
 
+    def _fork_into(self, world: _WorldHandle) -> None:
+        """Opens a world in a closed handle that goes on from this one as it is now; no pair is copied."""
+        with _held(_CheckpointHandle()) as taken:
+            with self._lock:
+                _check(_library.cagzhomul_checkpoint(self._opened(), taken))
+            _check(_library.cagzhomul_open_checkpoint(taken, self._furthest_jump, world))
+
     def _audit(self) -> Any:
-        return _library.cagzhomul_check(self._opened())
+        with _held(_WorldHandle()) as fork:
+            self._fork_into(fork)
+            return _library.cagzhomul_check(fork)
 
     def reply_to(self, line: Union[str, bytes]) -> str:
         """The reply to a line, which is given without its ending: lines with their endings, or none.
