@@ -2,6 +2,7 @@
 
 from __future__ import annotations
 
+import math
 from typing import Optional
 
 from ._values import Moment
@@ -43,6 +44,23 @@ def _check_act(moment: int, pieces: int, limit: int) -> None:
         _whole("moment", moment, 64)
         _small("pieces", pieces)
         _small("limit", limit)
+
+
+def _clocked(clock: object) -> None:
+    """Refuses a clock that is none, as a number: time would stand still."""
+    if not callable(clock):
+        raise TypeError(f"clock is a function that gives the present moment, as cagzhomul.clock(db) gives one, and not {type(clock).__name__}")
+
+
+def _limit_of(seconds: Optional[float]) -> float:
+    """A time by the wall clock, in seconds, or without end."""
+    if seconds is None:
+        return math.inf
+    if isinstance(seconds, bool) or not isinstance(seconds, (int, float)):
+        raise TypeError(f"seconds is a number, and not {type(seconds).__name__}")
+    if not seconds >= 0:
+        raise _OutOfRange(f"seconds is at least 0, and not {seconds}")
+    return seconds
 
 
 def _at(now: Moment, name: str = "now") -> int:

@@ -2,10 +2,13 @@
 
 from __future__ import annotations
 
-from typing import Any, Dict, Optional, Tuple, Type, cast
+from typing import TYPE_CHECKING, Any, Dict, Optional, Sequence, Tuple, Type, cast
 
 from ._library import _BAD_LINE, _BAD_TABLE, _CONFLICT, _DEPENDENT, _LEASE_ENDED, _NOT_PUBLIC, _OK, _WRONG_TYPE, text_of
 from ._values import _MOST_BYTES, Key, _values, literal
+
+if TYPE_CHECKING:
+    from ._schema import SchemaElement
 
 
 class CagzhomulError(Exception):
@@ -195,6 +198,23 @@ class StillWaiting(CagzhomulError):
 
     def _parts(self) -> Tuple[Any, ...]:
         return (self.change,)
+
+
+class NotCompleted(CagzhomulError):
+    """A change was not completed, since so many `seconds` had passed, or, if that is None, since it was
+    cancelled. Under way are the `elements`, as they were then, and the change `waiting`, in words, if it
+    waits for its first step: `resume` goes on. The clock was `behind` the world's last moment by so many."""
+
+    def __init__(self, seconds: Optional[float] = None, elements: Sequence[SchemaElement] = (), waiting: Optional[str] = None, behind: int = 0) -> None:
+        left = [f"{it.table}.{it.name} is {it.state}{' and dropped' if it.is_dropped else ''}" for it in elements]
+        left += [] if waiting is None else [f"`{waiting}` waits for its first step"]
+        left += [f"the clock is {behind} moments behind the world's last one"] if behind else []
+        said = "cancelled" if seconds is None else f"not completed after {seconds:g} seconds"
+        super().__init__(-1, f"{said}: {', '.join(left)}; `resume` goes on")
+        self.seconds, self.elements, self.waiting, self.behind = seconds, tuple(elements), waiting, behind
+
+    def _parts(self) -> Tuple[Any, ...]:
+        return self.seconds, self.elements, self.waiting, self.behind
 
 
 class UnexpectedReply(CagzhomulError): """Bytes of the library in a code that this module does not know."""

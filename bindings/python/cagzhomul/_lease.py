@@ -40,6 +40,7 @@ class _Grant(_Owner):
             granted = _library.cagzhomul_lease(by._world, moment, self._handle)
             _check(granted.status)
             by._grown(int(granted.place))
+            by._reached(int(granted.granted))
             self._names: _Names = db._names
             if self._names.version != granted.version:
                 with _held(_BytesHandle()) as code:

@@ -7,6 +7,7 @@ import json
 from typing import Any, Callable, Dict, Optional, Union
 
 from ._arguments import _ANY_JUMP, _at, _check_act, _small, _whole
+from ._clock import _Clock
 from ._errors import NotOpened, Unknown, _check, _number_of
 from ._library import _FINISHED, _NOT_NEXT, _OK, _ROOM, _WAITING, _BytesHandle, _CheckpointHandle, _code_of, _held, _library, _SessionHandle, _WorldHandle
 from ._owner import _Audited
@@ -29,6 +30,7 @@ class Session(_Audited):
         # whether a version may have been published that the kept lease of a Db is not on
         self._is_newer = False
         self._out = ctypes.create_string_buffer(_ROOM)
+        self._clock: Optional[_Clock] = None
         self._furthest_jump: int = _jump if _forked is None else _forked._furthest_jump
         if _forked is not None:
             _forked._fork_into(self._world)
@@ -108,6 +110,24 @@ class Session(_Audited):
         """The same, for a caller who has the lock."""
         reported: Dict[str, Any] = json.loads(self._written(lambda out, room: _library.cagzhomul_status(self._opened(), out, room)))
         return reported
+
+    def _its_clock(self) -> _Clock:
+        """Its one clock, which begins at the world's last moment."""
+        with self._lock:
+            if self._clock is None:
+                self._clock = _Clock(int(self._status()["moment"]))
+            return self._clock
+
+    def _reached(self, moment: int) -> None:
+        """The world has come to a moment, which its clock follows."""
+        if self._clock is not None:
+            self._clock.reach(moment)
+
+    def _behind(self, moment: int) -> int:
+        """By how many moments this one is behind the world's last, for a caller who has the lock."""
+        last = int(self._status()["moment"])
+        self._reached(last)
+        return max(last - moment, 0)
 
     def schema(self) -> Schema:
         """The newest version: its tables, columns and indexes. Raises Closed, NotOpened or OutOfMemory."""
@@ -293,8 +313,8 @@ class Session(_Audited):
             self._is_newer |= done.status == _OK
             if self._keep is not None and done.status == _OK:
                 self._grown(int(_library.cagzhomul_log_length(self._world).length))
-        if done.status == _WAITING:
-            return Waiting(done.until if first is None else min(done.until, first.until))
+            if done.status == _WAITING:
+                return Waiting(int(done.until if first is None else min(done.until, first.until)), self._behind(moment))
         if done.status == _FINISHED:
             return first
         _check(done.status)
@@ -319,8 +339,8 @@ class Session(_Audited):
         with _held(_BytesHandle()) as entry:
             with self._lock:
                 done = _library.cagzhomul_due_entry(self._opened(), moment, pieces, limit, entry)
-            if done.status == _WAITING:
-                return Waiting(int(done.until))
+                if done.status == _WAITING:
+                    return Waiting(int(done.until), self._behind(moment))
             if done.status == _FINISHED:
                 return None
             _check(done.status)
