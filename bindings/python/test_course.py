@@ -87,7 +87,8 @@ class Ends(unittest.TestCase):
     def test_a_function_or_an_event_cancels_it(self) -> None:
         event, asked = threading.Event(), iter([False] * 5 + [True] * 5)
         event.set()
-        for cancel in (lambda: next(asked), event):
+        ways: List[cagzhomul.Cancel] = [lambda: next(asked), event]
+        for cancel in ways:
             with cagzhomul.open(PEOPLE) as db:
                 error = self.ended(lambda: db.complete(AGE, lambda: 10, cancel=cancel))
                 self.assertEqual((error.seconds, error.elements[0].name, str(error)), (None, "age", "cancelled: people.age is delete_only; `resume` goes on"))
@@ -175,10 +176,11 @@ class InALoop(unittest.TestCase):
             task = asyncio.ensure_future(db.complete_async(INDEX, lambda: 10))
             await asyncio.sleep(0.02)
             task.cancel()
-            return (await asyncio.gather(task, return_exceptions=True))[0]  # type: ignore[return-value]
+            return (await asyncio.gather(task, return_exceptions=True))[0]
 
         async def go_on(db: cagzhomul.Db) -> List[cagzhomul.Step]:
-            clock, steps = Clock(10), []
+            clock = Clock(10)
+            steps: List[cagzhomul.Step] = []
             async for step in db.resume_async(clock):
                 steps.append(step)
                 clock.now = step.until if isinstance(step, Waiting) else clock.now

@@ -74,7 +74,8 @@ class Runs(unittest.TestCase):
             self.assertEqual(db.query(clock, "select age from counters"), [{"id": 1, "age": 5}])
 
     def test_a_lease_that_ends_in_the_function_is_taken_anew(self) -> None:
-        clock, tries = Clock(5), []
+        clock = Clock(5)
+        tries: List[int] = []
 
         def slow(txn: Txn) -> None:
             tries.append(clock.now)

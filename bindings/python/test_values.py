@@ -34,7 +34,7 @@ class Values(unittest.TestCase):
 
     def says(self, kind: type, words: str, call: Callable[[], object]) -> None:
         """The call is refused in these words, which end the message, and nothing changes."""
-        with self.subTest(words), self.assertRaisesRegex(kind, re.escape(words) + "$"):  # type: ignore[call-overload]
+        with self.subTest(words), self.assertRaisesRegex(kind, re.escape(words) + "$"):
             call()
 
     def test_a_cell_is_named_by_table_and_column(self) -> None:
@@ -154,7 +154,7 @@ class Opened(unittest.TestCase):
         ]
         for tables, kind, words in rows:
             for call in (lambda: cagzhomul.open(tables), lambda: layer.open(MemoryStore(), tables)):
-                with self.subTest(words), self.assertRaisesRegex(kind, re.escape(words) + "$"):  # type: ignore[call-overload]
+                with self.subTest(words), self.assertRaisesRegex(kind, re.escape(words) + "$"):
                     call()
 
 

@@ -121,7 +121,8 @@ class LongAnswers(unittest.TestCase):
 class ChangeWaits(unittest.TestCase):
     def test_each_step_of_a_change_has_it_for_its_own_items_alone(self) -> None:
         Waits.setUpClass()
-        db, moment, times = Waits.db, 0, []
+        db, moment = Waits.db, 0
+        times: List[float] = []
         try:
             for step in db.change(INDEX, lambda: moment, limit=100):
                 times.append(db._lock.longest)

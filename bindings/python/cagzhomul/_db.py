@@ -189,7 +189,7 @@ class Db(_Changing, Session):
     def _again(self, attempt: Callable[[Txn], _Result], now: Optional[Moment], seconds: float) -> _Result:
         """Makes an attempt with a transaction, again as long as it meets what the next one may not, but no
         longer than so many seconds."""
-        clock = self._its_clock() if now is None else now
+        clock: Moment = self._its_clock() if now is None else now
         end = time.monotonic() + _limit_of(seconds)
         refused: Optional[Lease] = None
         while True:

@@ -48,7 +48,8 @@ def _wrong_key(what: str, key: object, columns: Sequence[Tuple[str, Optional[Kin
     """Why this is no key; None if it is one of some table. The columns of its values are named as far as they are known."""
     if not (key is None or isinstance(key, (int, str, float, tuple, list))):
         return TypeError(f"{what} is one value, or a tuple or list of them, and not {type(key).__name__}")
-    for place, value in enumerate(key if isinstance(key, (tuple, list)) else (key,)):
+    values: Sequence[object] = key if isinstance(key, (tuple, list)) else (key,)
+    for place, value in enumerate(values):
         named, kind = columns[place] if place < len(columns) else (what, None)
         wrong = _wrong_value(named, value, kind)
         if wrong is not None:
