@@ -63,7 +63,8 @@ class Session(_Audited):
             return _library.cagzhomul_check(fork)
 
     def reply_to(self, line: Union[str, bytes]) -> str:
-        """The reply to a line, which is given without its ending: lines with their endings, or none.
+        """The reply to a line, which is given without its ending: lines with their endings, or none. Other
+        threads wait meanwhile, so beside writers a long query or `check` is a typed call.
 
         Raises BadLine, Closed, NotUtf8 (for bytes alone), TooFar of a line that names such a moment, or
         OutOfMemory. A refusal of the language, as `refused NoServer`, is a reply.
