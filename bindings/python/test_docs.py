@@ -3,15 +3,18 @@
 import asyncio
 import contextlib
 import doctest
+import os
+import re
 import time
 import unittest
-from typing import Optional
+from typing import Any, Dict, Optional
 
 import cagzhomul
 import cagzhomul.console
 from cagzhomul_layer import layer
 from cagzhomul_layer.memory import MemoryStore
 
+PAGE = os.path.join(os.path.dirname(os.path.abspath(__file__)), "..", "..", "docs", "EMBEDDING.md")
 TABLES = {"people": {"id": "int key", "town": "text"}}
 
 
@@ -40,6 +43,18 @@ class Examples(unittest.TestCase):
                  "Lease.query", "Lease.txn", "Txn.get", "open", "retry"]
         self.assertLessEqual({f"cagzhomul.{call}" for call in calls}, found)
         self.assertLessEqual({f"cagzhomul_layer.layer.{call}" for call in ("open", "Layer.query", "Layer.run", "Layer.modify", "Layer.change")}, found)
+
+    def test_the_programs_of_the_page_on_embedding_run(self) -> None:
+        with open(PAGE, encoding="utf-8") as file:
+            programs = re.findall(r"^```python\n(.*?)^```", file.read(), re.M | re.S)
+        # the first is that of a file, which the gate runs; each of the others goes on from the one before
+        names: Dict[str, Any] = {"cagzhomul": cagzhomul, "tables": TABLES}
+        self.assertEqual(len(programs), 4)
+        for program in programs[1:]:
+            exec(program, names)
+        rows = [{"id": 1, "town": "Ulm"}, {"id": 2, "town": "Ulm"}]
+        self.assertEqual((names["rows"], names["before"]), (rows, rows))
+        names["db"].close()
 
 
 if __name__ == "__main__":
