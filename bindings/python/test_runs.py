@@ -139,6 +139,20 @@ class Runs(unittest.TestCase):
             self.assertEqual(db.write(lambda txn: txn.insert("counters", 2).write(), 5), Receipt(3))
             self.assertEqual(db.log_length(), 3)
 
+    def test_one_that_was_committed_is_not_made_again(self) -> None:
+        for error in (cagzhomul.Conflict(), cagzhomul.LeaseEnded()):
+            def commits(txn: Txn) -> None:
+                add_in(txn)
+                txn.commit()
+                raise error
+
+            with cagzhomul.open(COUNTERS) as db:
+                calls: List[Callable[[Callable[[Txn], None], cagzhomul.Moment], object]] = [db.run, db.write]
+                for call in calls:
+                    with self.assertRaises(type(error)):
+                        call(commits, 5)
+                self.assertEqual(db.query(5, "select n from counters"), [{"id": 1, "n": 2}])
+
     def test_updates_by_what_find_gives_are_lost_as_its_page_says(self) -> None:
         told = " ".join((cagzhomul.Lease.find.__doc__ or "").split())
         self.assertIn("may undo the update of another thread", told)

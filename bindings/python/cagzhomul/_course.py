@@ -18,8 +18,8 @@ from ._values import Clock
 if TYPE_CHECKING:
     from ._changing import _Changing
 
-# what ends the steps: a function that says so, or an event, as that of the module threading
-Cancel = Union[Callable[[], object], threading.Event]
+# what ends the steps: a function that says so, or an event
+Cancel = Union[Callable[[], object], threading.Event, asyncio.Event]
 
 # how many seconds pass between two looks at a clock that is waited for
 _PAUSE = 0.001

@@ -201,8 +201,8 @@ class Db(_Changing, Session):
                     return attempt(txn)
                 except (Conflict, LeaseEnded, BadLease, WrongSchema) as error:
                     is_met = isinstance(error, Conflict)
-                    # the first lease is one from before, which others may have ended
-                    if time.monotonic() >= end and (is_met or not is_first):
+                    # the first lease is one from before, which others may have ended; what was committed is not made again
+                    if txn.receipt is not None or (time.monotonic() >= end and (is_met or not is_first)):
                         raise
                     refused = refused if is_met else lease
 
