@@ -170,7 +170,7 @@ class InALoop(unittest.TestCase):
         with cagzhomul.open(PEOPLE, lease_length=20) as db:
             rows, took = asyncio.run(both(db))
             # three versions, each 20 milliseconds after the one before
-            self.assertTrue(took >= 0.06 and rows > 20, (took, rows))
+            self.assertTrue(took >= 0.06 and rows > 3, (took, rows))
             self.assertEqual((db.status()["version"], db.check()), (4, cagzhomul.Audit(rows, 0, 0)))
 
     def test_a_task_that_is_cancelled_leaves_it_under_way(self) -> None:

@@ -40,7 +40,7 @@ class Waits(unittest.TestCase):
 
     @classmethod
     def setUpClass(cls) -> None:
-        cls.db = cagzhomul.open({"people": {"id": "int key", "town": "text", "n": "int"}}, lease_length=100)
+        cls.db = cagzhomul.open({"people": {"id": "int key", "town": "text", "n": "int"}}, lease_length=100, keep=None)
         cls.lease = cls.db.lease(0)
         for first in range(0, ROWS, 64):
             txn = cls.lease.txn()

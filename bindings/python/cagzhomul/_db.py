@@ -33,8 +33,9 @@ class Db(_Changing, Session):
     """A store of tables in memory, whose indexes and columns come and go while transactions run. It
     is a session, too.
 
-    A moment (`now`) is a number of the caller's clock, or a function that gives it; one that is
-    below that of the log's last entry counts as that.
+    A moment (`now`) is a number of the caller's clock, or a function that gives it, as `clock(db)`; one
+    that is below that of the log's last entry counts as that. `run`, `write`, `modify` and `query` go under
+    a lease that it takes, and renews, by itself.
 
     It cuts its log by itself, so that it may live for ever: the last `keep` entries stay in memory,
     and the older ones are given back once there are as many of them. With `keep=None` none ever is,
@@ -161,7 +162,7 @@ class Db(_Changing, Session):
 
         Raises what `run` does.
 
-        >>> db.write(lambda txn: txn.insert("people", 1, town="Ulm").insert("people", 2))  # after the entry of its lease
+        >>> db.write(lambda txn: txn.insert("people", 1, town="Ulm").insert("people", 2), now=5)  # after the entry of its lease
         Receipt(place=3)
         """
         def attempt(txn: Txn) -> Receipt:
@@ -176,7 +177,7 @@ class Db(_Changing, Session):
         Raises what `run` does.
 
         >>> for _ in range(2):
-        ...     db.modify("people", 1, lambda row: {"town": "Ulm"} if row is None else {"town": row["town"] + "!"})
+        ...     db.modify("people", 1, lambda row: {"town": "Ulm"} if row is None else {"town": row["town"] + "!"}, now=5)
         Receipt(place=3)
         Receipt(place=4)
         """

@@ -296,8 +296,8 @@ class Session(_Audited):
         on, or works `limit` items of a piece (1 to 1,000). If a change of `Db.change` waits for its
         first step, that comes before all, as soon as it may be published.
 
-        The step says whether it acted, or until when nothing can be done; None if no change is under
-        way, and none waits. Raises Closed or NotOpened; if a change waits, then what `Db.change` would
+        The step says whether it acted, or until when nothing can be done, and by how much the moment is then
+        behind the world's last; None if no change is under way, and none waits. Raises Closed or NotOpened; if a change waits, then what `Db.change` would
         for it, and forgets it, except at TooFar, MomentTooLarge and OutOfMemory; then TooFar, BadCount,
         MomentTooLarge, VersionsSpent or OutOfMemory. The session is as it was.
 

@@ -335,7 +335,7 @@ def retry(attempts: int, attempt: Callable[[], _Result]) -> _Result:
     Receipt(place=3)
 
     What it reads by a query, or before it, is no part of the transaction, and may have changed.
-    `Lease.modify` does all this for one row.
+    `Lease.modify` does all this for one row, and `Db.run` for any transaction, under leases of the store.
     """
     for _ in range(_whole("attempts", attempts, 63) - 1):
         try:
