@@ -297,9 +297,10 @@ class Session(_Audited):
         first step, that comes before all, as soon as it may be published.
 
         The step says whether it acted, or until when nothing can be done, and by how much the moment is then
-        behind the world's last; None if no change is under way, and none waits. Raises Closed or NotOpened; if a change waits, then what `Db.change` would
-        for it, and forgets it, except at TooFar, MomentTooLarge and OutOfMemory; then TooFar, BadCount,
-        MomentTooLarge, VersionsSpent or OutOfMemory. The session is as it was.
+        behind the world's last; None if no change is under way, and none waits. Raises Closed or NotOpened;
+        if a change waits, then what `Db.change` would for it, and forgets it, except at TooFar,
+        MomentTooLarge and OutOfMemory; then TooFar, BadCount, MomentTooLarge, VersionsSpent or OutOfMemory.
+        The session is as it was.
 
         >>> steps = db.change("add column age int on people", lambda: 0)  # it waits, and the store keeps it
         >>> [db.advance(moment) for moment in (0, 10, 20, 20)]
