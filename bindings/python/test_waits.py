@@ -12,8 +12,8 @@ import cagzhomul
 from cagzhomul import AddIndex, Query, Waiting
 
 ROWS = int(os.environ.get("CAGZHOMUL_ROWS", "20000"))
-# how many milliseconds a call may have the lock; at 20,000 rows a scan takes some ten times as many
-MOST = 2.0
+# how many milliseconds a call may have the lock; a scan of 20,000 rows takes three to five times as many, and what a call does under it a tenth
+MOST = 5.0
 INDEX = AddIndex("people", "by_town", ["town"])
 
 
