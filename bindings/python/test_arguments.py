@@ -110,7 +110,7 @@ class Arguments(unittest.TestCase):
 
     def test_lines_steps_entries_and_saved_bytes(self) -> None:
         rows: List[Tuple[str, Callable[[Any], object]]] = [
-            ("step", lambda it: self.db.publish(0, it)), ("entry", self.db.repeat), ("at", lambda it: cagzhomul.open(TABLES, at=it)), ("at", lambda it: cagzhomul.open(at=it)),
+            ("step", lambda it: self.db.publish(0, it)), ("entry", self.db.repeat), ("at", lambda it: cagzhomul.open(TABLES, at=it)), ("at", lambda it: cagzhomul.open(at=it)), ("at", lambda it: cagzhomul.Db(TABLES, at=it)),
         ]
         saved = self.db.checkpoint()
         for name, call in rows:

@@ -87,9 +87,13 @@ class Ends(unittest.TestCase):
     def test_a_function_or_an_event_cancels_it(self) -> None:
         event, asked = threading.Event(), iter([False] * 5 + [True] * 5)
         event.set()
-        in_a_loop = asyncio.Event()
-        in_a_loop.set()
-        ways: List[cagzhomul.Cancel] = [lambda: next(asked), event, in_a_loop]
+
+        async def in_a_loop() -> asyncio.Event:
+            done = asyncio.Event()
+            done.set()
+            return done
+
+        ways: List[cagzhomul.Cancel] = [lambda: next(asked), event, asyncio.run(in_a_loop())]
         for cancel in ways:
             with cagzhomul.open(PEOPLE) as db:
                 error = self.ended(lambda: db.complete(AGE, lambda: 10, cancel=cancel))

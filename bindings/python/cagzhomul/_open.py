@@ -6,7 +6,6 @@ from typing import Optional, overload
 
 from ._arguments import _jump
 from ._db import Db
-from ._refused import _bytes
 from ._session import Session
 from ._tables import Tables
 from ._values import Clock
@@ -41,8 +40,6 @@ def open(tables: Optional[Tables] = None, lease_length: int = 10, keep: Optional
     ...         lease.until, lease.insert("shop", ("Ulm", 7), open=True), lease.query(0, "select open from shop")
     (1000, Receipt(place=2), [{'city': 'Ulm', 'number': 7, 'open': True}])
     """
-    if at is not None:
-        _bytes("at", at)
     if tables is not None:
         return Db(tables, lease_length, keep, at, furthest_jump)
     jump = _jump(furthest_jump)

@@ -35,7 +35,7 @@ class Session(_Audited):
         if _forked is not None:
             _forked._fork_into(self._world)
         elif _checkpoint is not None:
-            _check(_library.cagzhomul_open_at(self._world, _checkpoint, len(_checkpoint), self._furthest_jump))
+            _check(_library.cagzhomul_open_at(self._world, _bytes("at", _checkpoint), len(_checkpoint), self._furthest_jump))
         elif _opening_code:
             _check(_library.cagzhomul_open(self._world, _opening_code, len(_opening_code), self._furthest_jump))
         else:
