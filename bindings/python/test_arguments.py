@@ -66,7 +66,7 @@ class Arguments(unittest.TestCase):
             self.refuses(name, call)
         self.refuses("keep", lambda it: cagzhomul.open(TABLES, keep=it), [it for it in BAD if it[0] is not None])
         self.refuses("place", db.entry, BAD[:4])
-        saved, jumps = db.checkpoint(), [*(it for it in BAD if it[0] is not None), (0, ValueError)]
+        saved, jumps = db.checkpoint(), [*(it for it in BAD if it[0] is not None)]
         self.refuses("furthest_jump", lambda it: cagzhomul.open(TABLES, furthest_jump=it), jumps)
         self.refuses("furthest_jump", lambda it: cagzhomul.open(TABLES, at=saved, furthest_jump=it), jumps)
         self.refuses("furthest_jump", lambda it: cagzhomul.open(at=saved, furthest_jump=it), jumps)
@@ -103,6 +103,25 @@ class Arguments(unittest.TestCase):
             with self.assertRaisesRegex(TypeError, "^the change is a Change or a str, and not "):
                 opened.change([bad])
         self.assertEqual(opened.schema.next, 2)
+
+    def test_numbers_that_are_too_long_to_be_written_are_named(self) -> None:
+        with self.assertRaisesRegex(ValueError, r"^now is from 0 to 2\*\*64 - 1, and not a number of 16,610 bits$"):
+            self.db.lease(10**5000)  # 5,000 / log10(2) = 16,609.6
+
+    def test_lines_steps_entries_and_saved_bytes(self) -> None:
+        rows: List[Tuple[str, Callable[[Any], object]]] = [
+            ("step", lambda it: self.db.publish(0, it)), ("entry", self.db.repeat), ("at", lambda it: cagzhomul.open(TABLES, at=it)), ("at", lambda it: cagzhomul.open(at=it)), ("at", lambda it: cagzhomul.Db(TABLES, at=it)),
+        ]
+        saved = self.db.checkpoint()
+        for name, call in rows:
+            for bad in (bytearray(saved), memoryview(saved), "x", 1):
+                with self.subTest(name=name, bad=bad), self.assertRaisesRegex(TypeError, f"^{name} is bytes, and not {type(bad).__name__}$"):
+                    call(bad)
+        for bad in (None, 1, bytearray(b"status")):
+            with self.assertRaisesRegex(TypeError, f"^line is a str or bytes, and not {type(bad).__name__}$"):
+                self.db.reply_to(bad)
+        with self.assertRaisesRegex(UnicodeEncodeError, "line has a surrogate, which UTF-8 has no bytes for$"):
+            self.db.reply_to("# \ud800")
 
 
 if __name__ == "__main__":

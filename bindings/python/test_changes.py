@@ -9,7 +9,6 @@ from typing import Callable, Dict, List, Type
 
 import cagzhomul
 from cagzhomul import Acted, Waiting
-from cagzhomul._lease import _Grant
 from test_stores import PEOPLE, Clock
 
 ALL = "select * from people"
@@ -150,7 +149,7 @@ class KeptLeases(unittest.TestCase):
     def test_a_lease_that_is_refused_is_replaced_once(self) -> None:
         with cagzhomul.open(PEOPLE) as db, cagzhomul.open(PEOPLE, lease_length=23) as other:
             self.assertEqual(db.query(5, ALL), [])
-            db._kept = _Grant(other, 7)  # none that lasts 23 moments is granted here
+            db._kept = other.lease(7)  # none that lasts 23 moments is granted here
             self.assertEqual((db.query(8, ALL), db.log_length()), ([], 2))
             self.assertEqual((db.query(17, ALL), db.log_length()), ([], 2))
 

@@ -134,6 +134,13 @@ class Jumps(unittest.TestCase):
                 # the past is not far
                 self.assertEqual(db.lease(0).granted, min(first + 2, 2**62))
 
+    def test_with_no_jump_each_later_moment_is_too_far(self) -> None:
+        with cagzhomul.open(PEOPLE, furthest_jump=0) as db:
+            db.lease(5).close()  # before the first entry no moment is too far
+            self.refused(cagzhomul.TooFar, lambda: db.lease(6))
+            self.assertEqual([db.lease(now).granted for now in (5, 0)], [5, 5])
+            self.assertEqual((db.status()["moment"], db.log_length()), (5, 3))
+
     def test_the_kept_lease_stays(self) -> None:
         db, _ = self.opened()
         self.assertEqual((len(db.query(LAST, ALL)), db.log_length()), (3, 10))

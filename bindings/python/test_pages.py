@@ -110,7 +110,8 @@ class Pages(unittest.TestCase):
                 call()
             error = raised.exception
             self.assertEqual((error.column, error.is_key), ("id", True))
-            self.assertEqual(str(error), "a named column is not a public column of its table: id, which is a key column")
+            self.assertEqual(str(error), "a named column is not a public column of its table: id, which is a key column: each row found has it, and is found by its whole key, "
+                             "as `key = (1)` in words, or `Query(.., key=1)`")
             self.assertEqual(str(pickle.loads(pickle.dumps(error))), str(error))
         with self.assertRaises(cagzhomul.NotPublic) as raised:
             self.snapshot.query(Query("t", ["b"]))

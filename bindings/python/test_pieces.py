@@ -198,7 +198,7 @@ class Pieces(unittest.TestCase):
         with cagzhomul.open(PEOPLE) as db, db.lease(5) as lease:
             txn = lease.txn().insert("people", 1, town="Ulm").insert("people", 2)
             self.assertEqual((txn.write(), txn.receipt), (Receipt(2), Receipt(2)))
-            self.assertEqual(vars(self.refused(cagzhomul.Duplicate, txn.write))["operation"], 0)
+            self.assertEqual(vars(self.refused(cagzhomul.Duplicate, lease.txn().insert("people", 1).write))["operation"], 0)
             self.assertEqual(vars(self.refused(cagzhomul.NoRow, lease.txn().delete("people", 1).delete("people", 3).write))["operation"], 1)
             self.assertEqual(vars(self.refused(cagzhomul.NotPublic, lambda: lease.insert("people", 4, name="x")))["column"], "name")
             self.refused(cagzhomul.WrongType, lambda: lease.insert("people", 4, town="x" * 1025))

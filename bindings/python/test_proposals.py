@@ -2,7 +2,9 @@
 
 import contextlib
 import random
+import threading
 import unittest
+from concurrent.futures import ThreadPoolExecutor
 from typing import Callable, Dict, List, Set, Tuple, Type, TypeVar
 
 import cagzhomul
@@ -251,6 +253,22 @@ class Proposals(unittest.TestCase):
             for it in (db, replica):
                 self.assertEqual([it.repeat(granted), it.repeat(inserted)], [True, True])
             self.assertEqual((lease.update("people", 1, town="Hof"), db.query(5, "select town from people")), (Receipt(3), [{"id": 1, "town": "Hof"}]))
+
+    def test_who_has_all_writers_behind_a_lock_loses_no_update(self) -> None:
+        lock = threading.Lock()
+        with cagzhomul.open({"counters": {"id": "int key", "n": "int"}}) as db, db.lease(5) as lease:
+            lease.insert("counters", 1, n=0)
+
+            def count(_: int) -> bool:
+                with lock, contextlib.closing(lease.txn()) as txn:
+                    row = txn.get("counters", 1) or {}
+                    return db.repeat(txn.update("counters", 1, n=int(row["n"] or 0) + 1).entry())
+
+            with ThreadPoolExecutor(6) as pool:
+                self.assertEqual(list(pool.map(count, range(600))), [True] * 600)
+            self.assertEqual((lease.find(cagzhomul.Query("counters")), db.log_length()), ([{"id": 1, "n": 600}], 602))
+        for call in (cagzhomul.Txn.entry, cagzhomul.Session.repeat):
+            self.assertIn("lock of its own", " ".join((call.__doc__ or "").split()))
 
     def test_a_lease_that_came_too_late_is_none(self) -> None:
         with cagzhomul.open(PEOPLE) as db:

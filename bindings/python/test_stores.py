@@ -232,7 +232,10 @@ class Stores(unittest.TestCase):
             for key in range(2, 66):
                 many.insert("people", key)
             self.assertEqual(many.commit(), Receipt(3))
-            self.refused(cagzhomul.TooManyOps, many.delete("people", 1).commit)
+            more = lease.txn()
+            for _ in range(65):
+                more.update("people", 1)
+            self.refused(cagzhomul.TooManyOps, more.commit)
             for bad, error in ((2**63, OverflowError), (-(2**63) - 1, OverflowError), (1.5, TypeError)):
                 with self.assertRaises(error):
                     lease.insert("people", bad)  # type: ignore[arg-type]

@@ -5,7 +5,6 @@ What it prints does not depend on how the threads are scheduled.
 
 from __future__ import annotations
 
-import contextlib
 import time
 from concurrent.futures import Future, ThreadPoolExecutor
 from typing import List
@@ -26,13 +25,10 @@ class Clock:
 
 
 def write_rows(db: cagzhomul.Db, clock: Clock, key: int, inserted: List[int]) -> None:
-    """Inserts every fourth row, under a new lease whenever the last one has ended."""
-    while key < ROWS:
-        with contextlib.suppress(cagzhomul.LeaseEnded), db.lease(clock) as lease:
-            while key < ROWS:
-                cagzhomul.retry(3, lambda: lease.insert("people", key, town=TOWNS[key % len(TOWNS)]))
-                inserted.append(key)
-                key += WRITERS
+    """Inserts every fourth row, under leases that the store takes: a new one whenever the last has ended."""
+    for each in range(key, ROWS, WRITERS):
+        db.write(lambda txn: txn.insert("people", each, town=TOWNS[each % len(TOWNS)]), clock)
+        inserted.append(each)
 
 
 def add_index(db: cagzhomul.Db, clock: Clock, inserted: List[int], writers: List[Future[None]]) -> None:

@@ -35,7 +35,7 @@ from ._errors import (
     CagzhomulError, NotPublic, TooEarly, StillUsed, Dependent, Unfinished, Duplicate, NoRow, BadLine, Closed, AlreadyOpen, NotUtf8, OutOfMemory, NotOpened,
     NoEntry, BadEntry, BadCount, MomentTooLarge, VersionsSpent, TooFar, WrongStage, BadCode, BadTable, BadLength, NoTable, WrongType, TooManyOps, BadLease,
     LeaseEnded, WrongSchema, Conflict, BadLog, Unknown, NameTaken, OverLimit, StillIndexed, InChange, NotAdjacent, WrongWay, NotWanted, Begun, BadPiece, Spent,
-    WrongElement, Moved, StillWaiting, UnexpectedReply,
+    WrongElement, Moved, StillWaiting, NotCompleted, UnexpectedReply,
 )
 from ._values import Value, Key, Row, Clock, Moment, Kind, literal
 from ._arguments import _OutOfRange
@@ -43,25 +43,26 @@ from ._tables import Table, Tables
 from ._queries import Query
 from ._changes import AddIndex, AddColumn, DropIndex, DropColumn, Abandon, Change, Reorganisation, Move, PlannedStep
 from ._schema import SchemaTable, SchemaIndex, SchemaColumn, SchemaElement, Schema
-from ._results import Receipt, Acted, Waiting, Step, Audit, Progress, Worked
+from ._results import Receipt, Acted, Waiting, Step, Audit, Progress, Report, Worked
 from ._snapshot import Snapshot
+from ._course import Cancel
 from ._session import Session
 from ._db import Db
 from ._lease import Lease
 from ._txn import Txn, retry
 from ._piece import Piece
-from ._open import open
+from ._open import clock, open
 from ._log import LogFile, has_digest, recover
 
 __all__ = [
     "Abandon", "Acted", "AddColumn", "AddIndex", "AlreadyOpen", "Audit", "BadCode", "BadCount", "BadEntry", "BadLease", "BadLength", "BadLine", "BadLog", "BadPiece",
-    "BadTable", "Begun", "CagzhomulError", "Change", "Clock", "Closed", "Conflict", "Db", "Dependent", "DropColumn", "DropIndex", "Duplicate", "InChange",
-    "Key", "Kind", "Lease", "LeaseEnded", "LogFile", "Moment", "MomentTooLarge", "Move", "Moved", "NameTaken", "NoEntry", "NoRow", "NoTable", "NotAdjacent",
+    "BadTable", "Begun", "CagzhomulError", "Cancel", "Change", "Clock", "Closed", "Conflict", "Db", "Dependent", "DropColumn", "DropIndex", "Duplicate", "InChange",
+    "Key", "Kind", "Lease", "LeaseEnded", "LogFile", "Moment", "MomentTooLarge", "Move", "Moved", "NameTaken", "NoEntry", "NoRow", "NoTable", "NotAdjacent", "NotCompleted",
     "NotOpened", "NotPublic", "NotUtf8", "NotWanted", "OutOfMemory", "OverLimit", "Piece", "PlannedStep", "Progress", "Query", "Receipt",
-    "Reorganisation", "Row", "Schema", "SchemaColumn", "SchemaElement", "SchemaIndex", "SchemaTable", "Session", "Snapshot", "Spent", "Step", "StillIndexed",
+    "Reorganisation", "Report", "Row", "Schema", "SchemaColumn", "SchemaElement", "SchemaIndex", "SchemaTable", "Session", "Snapshot", "Spent", "Step", "StillIndexed",
     "StillUsed", "StillWaiting", "Table", "Tables", "TooEarly", "TooFar", "TooManyOps", "Txn",
     "UnexpectedReply", "Unfinished", "Unknown", "Value", "VersionsSpent", "Waiting", "Worked", "WrongElement", "WrongSchema", "WrongStage",
-    "WrongType", "WrongWay", "has_digest", "literal", "open", "recover", "retry", "text_of",
+    "WrongType", "WrongWay", "clock", "has_digest", "literal", "open", "recover", "retry", "text_of",
 ]
 
 

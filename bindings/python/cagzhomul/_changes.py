@@ -5,10 +5,13 @@ from __future__ import annotations
 from dataclasses import dataclass
 from typing import TYPE_CHECKING, Iterable, List, NamedTuple, Optional, Sequence, Tuple, Union
 
-from ._codes import _list, _name, _name_at, _number, _number_at, _small_at, _type, _value
-from ._errors import UnexpectedReply
+from ._codes import _list, _name, _name_at, _number, _number_at, _small_at, _type, _value_at
+from ._errors import OverLimit, UnexpectedReply
+from ._library import _OVER_LIMIT
+from ._queries import _coded
+from ._refused import _listed, _text
 from ._schema import _STATES, _kind_at
-from ._values import Kind, Value
+from ._values import _TYPES, Kind, Value
 
 if TYPE_CHECKING:
     from ._names import _Names
@@ -44,6 +47,8 @@ class Abandon(_Named): """A change that turns back what is being added to a tabl
 
 
 Change = Union[AddIndex, AddColumn, DropIndex, DropColumn, Abandon]
+# each at the number that codes have it by
+_CHANGES = AddIndex, DropIndex, AddColumn, DropColumn, Abandon
 
 
 class Reorganisation(NamedTuple):
@@ -81,26 +86,41 @@ class _Parts(NamedTuple):
     rest: bytes = b""
 
     def code(self, names: _Names) -> bytes:
-        return bytes([self.act]) + _number(names.tables.get(self.table, 0), 4) + _name(self.name) + self.rest
+        return bytes([self.act]) + _number(names.tables.get(self.table, 0), 4) + _name(self.name, "the name in a change") + self.rest
+
+    def wrong_default(self) -> Optional[str]:
+        """What is wrong with the default of a column that is added, if it is of another type."""
+        if self.act != 2 or self.rest[0] != 2 or self.rest[2] - 2 == self.rest[1]:
+            return None
+        default, kind = _value_at(self.rest, 2)[0], _TYPES[self.rest[1]].__name__
+        return f"{self.table}.{self.name}: the default {default!r} is no {kind}, and the column is {'an' if kind == 'int' else 'a'} {kind}"
+
+
+def _over_limit(changes: Iterable[_Parts]) -> OverLimit:
+    """What of these changes is over a limit, if that is known."""
+    return OverLimit(_OVER_LIMIT, next(filter(None, (it.wrong_default() for it in changes)), ""))
 
 
 def _names_of(columns: Iterable[str]) -> bytes:
-    return _list([_name(column) for column in columns])
+    return _list([_name(column, "a column of an index") for column in columns])
 
 
-def _column_kind(kind: Kind, default: Optional[bytes]) -> bytes:
+def _column_kind(kind: Kind, default: Optional[bytes], what: str = "the type of a column") -> bytes:
     """The kind of a column: one with a default, by its code, or without."""
-    return b"\1" + _type(kind) if default is None else b"\2" + _type(kind) + default
+    return b"\1" + _type(kind, what) if default is None else b"\2" + _type(kind, what) + default
 
 
 def _change(change: Change) -> _Parts:
-    act = [AddIndex, DropIndex, AddColumn, DropColumn, Abandon].index(type(change))
+    act = next((place for place, it in enumerate(_CHANGES) if isinstance(change, it)), None)
+    if act is None:
+        raise TypeError(f"each of changes is a Change, as AddIndex, and not {type(change).__name__}")
+    table, name = (_text(f"{_CHANGES[act].__name__}.{part}", given) for part, given in (("table", change.table), ("name", change.name)))
     if isinstance(change, AddIndex):
-        return _Parts(act, change.table, change.name, _names_of(change.columns))
+        return _Parts(act, table, name, _names_of(_listed("AddIndex.columns", change.columns)))
     if isinstance(change, AddColumn):
-        default = None if change.default is None else _value(change.default)
-        return _Parts(act, change.table, change.name, _column_kind(change.kind, default))
-    return _Parts(act, change.table, change.name)
+        default = None if change.default is None else _coded(f"the default of {table}.{name}", change.default)
+        return _Parts(act, table, name, _column_kind(change.kind, default, f"{table}.{name}"))
+    return _Parts(act, table, name)
 
 
 def _move_at(code: bytes, at: int) -> Tuple[Move, int]:

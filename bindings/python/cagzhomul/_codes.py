@@ -5,6 +5,7 @@ from __future__ import annotations
 import struct
 from typing import List, Sequence, Tuple
 
+from ._refused import _check_kind, _encoded, _text
 from ._values import _TYPES, Key, Kind, Value
 
 _number_at, _small_at = struct.Struct(">Q").unpack_from, struct.Struct(">I").unpack_from
@@ -18,11 +19,13 @@ def _list(items: Sequence[bytes]) -> bytes:
     return _number(len(items)) + b"".join(items)
 
 
-def _name(name: str) -> bytes:
-    return _number(len(name.encode())) + name.encode()
+def _name(name: str, what: str = "a name") -> bytes:
+    code = _encoded(what, _text(what, name))
+    return _number(len(code)) + code
 
 
-def _type(kind: Kind) -> bytes:
+def _type(kind: Kind, what: str = "the type of a column") -> bytes:
+    _check_kind(what, kind, _TYPES)
     return bytes([_TYPES.index(kind)])
 
 

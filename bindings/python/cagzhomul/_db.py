@@ -2,48 +2,40 @@
 
 from __future__ import annotations
 
+import contextlib
 import itertools
-import re
 import threading
 import time
-from typing import Iterator, List, Mapping, Optional, Sequence, Tuple, Union
+from typing import AsyncIterator, Callable, Iterable, Iterator, List, Mapping, Optional, Sequence, Tuple, TypeVar, Union
 
-from ._arguments import _at, _jump, _small, _whole
-from ._changes import Change, PlannedStep, _change, _Parts, _planned
-from ._codes import _list
-from ._errors import (
-    BadCode, BadLease, BadLine, BadTable, CagzhomulError, Closed, InChange, LeaseEnded, NameTaken, OverLimit, StillIndexed, StillWaiting, TooEarly, Unknown,
-    VersionsSpent, _check,
-)
-from ._lease import Lease, _Grant
-from ._library import _BAD_LINE, _BAD_TABLE, _CLOSED, _DEPENDENT, _OVER_LIMIT, _library
+from ._arguments import _at, _jump, _limit_of, _whole
+from ._changes import Change, PlannedStep, _change
+from ._changing import _Changing
+from ._course import Cancel, _Course, _Watch
+from ._errors import BadLease, BadTable, Closed, Conflict, LeaseEnded, WrongSchema, _check
+from ._lease import Lease
+from ._library import _BAD_TABLE, _CLOSED, _library
 from ._names import _Names
 from ._queries import Query
-from ._results import Acted, Step, Waiting
+from ._results import Receipt, Report, Step
 from ._schema import _schema
 from ._session import Session
 from ._snapshot import Snapshot
-from ._tables import Tables, _bad_table, _opening, _table
-from ._values import Clock, Moment, Row
-from ._words import _change_of, _query_of, _words_of
+from ._tables import Tables, _bad_table, _declared, _opening
+from ._txn import Txn
+from ._values import Clock, Key, Moment, Row, Value
+from ._words import _query_of
 
-# how many seconds pass between two looks at a clock that is waited for
-_PAUSE = 0.001
-
-
-def _arrived(clock: Clock, last: Step) -> int:
-    """The moment of a clock, once it is that for which the last step waits, if it waits."""
-    while (moment := _at(clock, "clock")) < (last.until if isinstance(last, Waiting) else 0):
-        time.sleep(_PAUSE)
-    return moment
+_Result = TypeVar("_Result")
 
 
-class Db(Session):
+class Db(_Changing, Session):
     """A store of tables in memory, whose indexes and columns come and go while transactions run. It
     is a session, too.
 
-    A moment (`now`) is a number of the caller's clock, or a function that gives it; one that is
-    below that of the log's last entry counts as that.
+    A moment (`now`) is a number of the caller's clock, or a function that gives it, as `clock(db)`; one
+    that is below that of the log's last entry counts as that. `run`, `write`, `modify` and `query` go under
+    a lease that it takes, and renews, by itself.
 
     It cuts its log by itself, so that it may live for ever: the last `keep` entries stay in memory,
     and the older ones are given back once there are as many of them. With `keep=None` none ever is,
@@ -52,20 +44,15 @@ class Db(Session):
 
     def __init__(self, tables: Tables, lease_length: int = 10, keep: Optional[int] = 10_000, at: Optional[bytes] = None, furthest_jump: Optional[int] = None) -> None:
         """Opens it, as `open` does."""
-        declared = [_table(*it) for it in tables.items()] if isinstance(tables, Mapping) else list(tables)
+        declared = _declared(tables)
         opening = _opening(_whole("lease_length", lease_length, 64), declared)
         try:
-            super().__init__(opening, at, _jump=_jump(furthest_jump))
+            super().__init__(opening, at, _jump(furthest_jump))
         except BadTable:
             raise _bad_table(opening, declared) from None
         self._keep = keep if keep is None else _whole("keep", keep, 63)
-        # the change that waits for its first step
-        self._waiting: Union[None, str, Change] = None
-        self._kept: Optional[_Grant] = None
+        self._kept: Optional[Lease] = None
         self._keeping = threading.Lock()
-        with self._lock:
-            code = self._schema_code()
-        self._names = _Names(0, _schema(code), code)
         if [(it.name, list(it.key.items())) for it in declared] != [(it.name, list(it.key.items())) for it in self._names.schema.tables]:
             self.close()
             raise BadTable(_BAD_TABLE)
@@ -128,13 +115,13 @@ class Db(Session):
         except (BadLease, LeaseEnded):
             return self._kept_lease(moment, kept).rows(self, moment, asked)
 
-    def _kept_lease(self, moment: int, refused: Optional[_Grant] = None) -> _Grant:
-        """The kept lease; or a new one, if that is the refused one, or is on an older version."""
+    def _kept_lease(self, moment: int, refused: Optional[Lease] = None) -> Lease:
+        """The kept lease; or a new one, if that is the refused one, has ended by then, or is on an older version."""
         with self._keeping:
-            if self._kept is not None and (self._kept is refused or not self._is_newest(self._kept._names)):
+            if self._kept is not None and not self._is_newest(self._kept._names):
                 self._kept = None  # another thread may still ask under it
-            if self._kept is None:
-                self._kept = _Grant(self, moment)
+            if self._kept is None or self._kept is refused or self._kept.until <= moment:
+                self._kept = Lease(self, moment)
             return self._kept
 
     def _is_newest(self, names: _Names) -> bool:
@@ -146,6 +133,79 @@ class Db(Session):
             newest = self._schema_code()
             self._is_newer = False
         return _schema(newest) == names.schema
+
+    def run(self, function: Callable[[Txn], _Result], now: Optional[Moment] = None, *, seconds: float = 30) -> _Result:
+        """Calls the function with a transaction, and then commits that, under the lease that the store keeps for
+        `query`, too; all again if a row that it got has changed meanwhile, or the lease has ended, under a new
+        one. No update is lost if the function computes from nothing but what `get` gives; it is called
+        without a lock, and may be called several times. The answer is its last.
+
+        `now` is a clock, or a moment, and `clock(db)` if it is None. Raises what `lease`, the function and
+        `Txn.commit` do; but Conflict and LeaseEnded only once so many `seconds` have passed.
+
+        >>> def move(txn):
+        ...     txn.insert("people", 2, town="Bonn")
+        ...     return txn.get("people", 1)
+        >>> db.run(move), len(db.query(0, "select * from people"))
+        (None, 1)
+        """
+        def attempt(txn: Txn) -> _Result:
+            answer = function(txn)
+            if txn.receipt is None:
+                txn.commit()
+            return answer
+        return self._again(attempt, now, seconds)
+
+    def write(self, function: Callable[[Txn], object], now: Optional[Moment] = None, *, seconds: float = 30) -> Receipt:
+        """Does what `run` does, but writes by `Txn.write`, in one call: the faster way if the function gets no
+        rows. It gives the receipt.
+
+        Raises what `run` does.
+
+        >>> db.write(lambda txn: txn.insert("people", 1, town="Ulm").insert("people", 2), now=5)  # after the entry of its lease
+        Receipt(place=3)
+        """
+        def attempt(txn: Txn) -> Receipt:
+            function(txn)
+            return txn.write() if txn.receipt is None else txn.receipt
+        return self._again(attempt, now, seconds)
+
+    def modify(self, table: str, key: Key, function: Callable[[Optional[Row]], Optional[Mapping[str, Value]]], now: Optional[Moment] = None, *,
+               seconds: float = 30) -> Optional[Receipt]:
+        """Changes a row by what it holds, as `Lease.modify`, but under leases of the store, as `run`.
+
+        Raises what `run` does.
+
+        >>> for _ in range(2):
+        ...     db.modify("people", 1, lambda row: {"town": "Ulm"} if row is None else {"town": row["town"] + "!"}, now=5)
+        Receipt(place=3)
+        Receipt(place=4)
+        """
+        def attempt(txn: Txn) -> Optional[Receipt]:
+            row = txn.get(table, key)
+            cells = function(row)
+            return None if cells is None else (txn.insert if row is None else txn.update)(table, key, **cells).commit()
+        return self._again(attempt, now, seconds)
+
+    def _again(self, attempt: Callable[[Txn], _Result], now: Optional[Moment], seconds: float) -> _Result:
+        """Makes an attempt with a transaction, again as long as it meets what the next one may not, but no
+        longer than so many seconds."""
+        clock: Moment = self._its_clock() if now is None else now
+        end = time.monotonic() + _limit_of(seconds)
+        refused: Optional[Lease] = None
+        while True:
+            if not self.is_open:
+                raise Closed(_CLOSED)
+            lease, is_first = self._kept_lease(_at(clock), refused), refused is None
+            with contextlib.closing(Txn(lease, clock)) as txn:
+                try:
+                    return attempt(txn)
+                except (Conflict, LeaseEnded, BadLease, WrongSchema) as error:
+                    is_met = isinstance(error, Conflict)
+                    # the first lease is one from before, which others may have ended; what was committed is not made again
+                    if txn.receipt is not None or (time.monotonic() >= end and (is_met or not is_first)):
+                        raise
+                    refused = refused if is_met else lease
 
     def snapshot(self, lease: Lease, now: Moment) -> Snapshot:
         """What the store holds, under a lease; it is to be closed.
@@ -175,21 +235,13 @@ class Db(Session):
         >>> len(steps), steps[2].before
         (3, (Reorganisation(work='fill', element=2),))
         """
+        if isinstance(changes, (str, bytes)) or not isinstance(changes, Iterable):
+            raise TypeError(f"changes is a list of changes, and not {type(changes).__name__}")
         parts = [_change(change) for change in changes]
         with self._lock:
             return self._plan(parts)
 
-    def _plan(self, changes: Sequence[_Parts]) -> List[PlannedStep]:
-        """The same, for a caller who has the lock."""
-        code = b"\1" + _list([change.code(self._names) for change in changes])
-        try:
-            return _planned(self._written(lambda out, room: _library.cagzhomul_plan(self._world, code, len(code), out, room)))
-        except CagzhomulError as refusal:
-            if refusal.status == _DEPENDENT:
-                raise StillIndexed(_DEPENDENT, "an index is on the column") from None
-            raise
-
-    def change(self, change: Union[str, Change], clock: Clock, *, pieces: int = 8, limit: int = 1000) -> Iterator[Step]:
+    def change(self, change: Union[str, Change], clock: Clock, *, pieces: int = 8, limit: int = 1000, seconds: Optional[float] = None, cancel: Optional[Cancel] = None) -> Iterator[Step]:
         """Begins a schema change, and gives the steps that complete it. The change is typed, as
         `AddIndex("people", "by_town", ["town"])`, or one that the language's `plan` takes, as
         `add index by_town on people (town)`.
@@ -203,11 +255,12 @@ class Db(Session):
         `pieces` pieces (1 to 64), and a step works `limit` items of one (1 to 1,000). Each step is
         one short call, so other threads go on. The step after a Waiting comes once the clock has got to
         its moment: until then the thread sleeps, and asks the clock every millisecond. The steps end
-        when no change at all is under way; after an error `resume` goes on.
+        when no change at all is under way; after an error `resume` goes on. They end before in NotCompleted
+        once so many `seconds` have passed since the call, or `cancel`, a function or an event, is true.
 
-        Raises BadLine for a list of changes; StillWaiting if another change waits; Closed; BadLine;
+        Raises TypeError for a clock that is a number; BadLine for a list of changes; StillWaiting if another change waits; Closed; BadLine;
         Unknown, NameTaken, StillIndexed, InChange or OverLimit; TooFar; MomentTooLarge; VersionsSpent;
-        OutOfMemory. The steps raise what `advance` does.
+        OutOfMemory. The steps raise what `advance` does, so Closed if the store is closed meanwhile.
 
         >>> moment = 0
         >>> for step in db.change("add index by_town on people (town)", lambda: moment):
@@ -217,68 +270,57 @@ class Db(Session):
         ...     lease.version, moment
         (4, 30)
         """
-        if isinstance(change, str) and ";" in re.sub("'[^']*'", "", change):
-            raise BadLine(_BAD_LINE)
-        _small("pieces", pieces)
-        _small("limit", limit)
-        moment = _at(clock, "clock")
-        with self._lock:
-            if self._waiting is not None:
-                raise StillWaiting(_words_of(self._waiting))
-            first = self._publish_first(change, moment)
-            if isinstance(first, Waiting):
-                self._waiting = change
-        return itertools.chain([first], self._steps_after(first, clock, pieces, limit))
+        course = _Course(self, clock, pieces, limit, seconds, cancel)
+        first = self._begin(change, course.moment())
+        return itertools.chain([first], course.steps(first))
 
-    def _begin_waiting(self, moment: int) -> Optional[Step]:
-        if self._waiting is None:
-            return None
-        try:
-            step = self._publish_first(self._waiting, moment)
-        except (Unknown, NameTaken, StillIndexed, InChange, OverLimit, VersionsSpent):
-            self._waiting = None
-            raise
-        if isinstance(step, Acted):
-            self._waiting = None
-        return step
-
-    def _publish_first(self, change: Union[str, Change], moment: int) -> Step:
-        """Publishes the first step of a change's plan, unless it is too early, for a caller who has the
-        lock: so the plan is of the newest version."""
-        if not self.is_open:
-            raise Closed(_CLOSED)
-        try:
-            self._publish(moment, self._plan([_change_of(change)])[0].code)
-        except TooEarly as early:
-            return Waiting(early.number)
-        except BadCode:  # only a default over 1,024 bytes makes a bad code of what the package writes
-            raise OverLimit(_OVER_LIMIT) from None
-        return Acted()
-
-    def complete(self, change: Union[str, Change], clock: Clock, *, pieces: int = 8, limit: int = 1000) -> None:
+    def complete(self, change: Union[str, Change], clock: Clock, *, pieces: int = 8, limit: int = 1000, seconds: Optional[float] = None,
+                 cancel: Optional[Cancel] = None, progress: Optional[Callable[[Report], object]] = None) -> None:
         """Begins a schema change as `change` does, and takes its steps to their end: when the call
-        returns, no change is under way. The thread sleeps while nothing can be done.
+        returns, no change is under way. The thread sleeps while nothing can be done. The function
+        `progress` is called with a `Report` of what each step did.
 
-        Raises what `change` and its steps do; after an error `resume` goes on.
+        Raises what `change` and its steps do, so NotCompleted once `seconds` have passed, or `cancel` is true:
+        a function, or an event as that of the module threading. After an error `resume` goes on.
 
-        >>> clock = lambda: int(time.monotonic() * 1000)
         >>> with cagzhomul.open({"people": {"id": "int key", "town": "text"}}, lease_length=20) as store:
-        ...     store.complete(AddIndex("people", "by_town", ["town"]), clock)
+        ...     clock = cagzhomul.clock(store)
+        ...     store.complete(AddIndex("people", "by_town", ["town"]), clock, progress=lambda it: print(it.element.name, it.element.state, it.work))
         ...     [element.name for element in store.schema().elements if element.state == "public"]
+        by_town delete_only publish
+        by_town write_only publish
+        by_town write_only fill
+        by_town public publish
         ['town', 'by_town']
         """
-        for _ in self.change(change, clock, pieces=pieces, limit=limit):
-            pass
+        watch = _Watch(self, progress)
+        for _ in self.change(change, clock, pieces=pieces, limit=limit, seconds=seconds, cancel=cancel):
+            watch.look()
 
-    def resume(self, clock: Clock, *, pieces: int = 8, limit: int = 1000) -> Iterator[Step]:
+    async def complete_async(self, change: Union[str, Change], clock: Clock, *, pieces: int = 8, limit: int = 1000, seconds: Optional[float] = None,
+                             cancel: Optional[Cancel] = None, progress: Optional[Callable[[Report], object]] = None) -> None:
+        """Does what `complete` does in a loop of asyncio: other tasks go on after each step, and while nothing can
+        be done. A step is a short call in the loop's thread. A task that is cancelled leaves the change under
+        way: `resume` or `resume_async` goes on.
+
+        Raises what `complete` does.
+
+        >>> with cagzhomul.open({"people": {"id": "int key", "town": "text"}}, lease_length=20) as store:
+        ...     asyncio.run(store.complete_async("add column age int on people", cagzhomul.clock(store)))
+        ...     store.query(cagzhomul.clock(store), "select age from people")
+        []
+        """
+        watch, course = _Watch(self, progress), _Course(self, clock, pieces, limit, seconds, cancel)
+        first = self._begin(change, course.moment())
+        watch.look()
+        async for _ in course.steps_async(first):
+            watch.look()
+
+    def resume(self, clock: Clock, *, pieces: int = 8, limit: int = 1000, seconds: Optional[float] = None, cancel: Optional[Cancel] = None) -> Iterator[Step]:
         """The steps that complete the changes under way, and that which waits, whoever began them, as
-        `change` gives them. They raise what `advance` does."""
-        _small("pieces", pieces)
-        _small("limit", limit)
-        return self._steps_after(Acted(), clock, pieces, limit)
+        `change` gives them. They raise what `advance` does, and NotCompleted as those of `change`."""
+        return _Course(self, clock, pieces, limit, seconds, cancel).steps(None)
 
-    def _steps_after(self, last: Step, clock: Clock, pieces: int, limit: int) -> Iterator[Step]:
-        """The steps after one, until there are no more."""
-        while (step := self.advance(_arrived(clock, last), pieces, limit)) is not None:
-            yield step
-            last = step
+    def resume_async(self, clock: Clock, *, pieces: int = 8, limit: int = 1000, seconds: Optional[float] = None, cancel: Optional[Cancel] = None) -> AsyncIterator[Step]:
+        """The steps that `resume` gives, for `async for` in a loop of asyncio, as `complete_async` does them."""
+        return _Course(self, clock, pieces, limit, seconds, cancel).steps_async(None)

@@ -2,10 +2,13 @@
 
 from __future__ import annotations
 
-from typing import Any, Dict, Optional, Tuple, Type, cast
+from typing import TYPE_CHECKING, Any, Dict, Optional, Sequence, Tuple, Type, cast
 
 from ._library import _BAD_LINE, _BAD_TABLE, _CONFLICT, _DEPENDENT, _LEASE_ENDED, _NOT_PUBLIC, _OK, _WRONG_TYPE, text_of
 from ._values import _MOST_BYTES, Key, _values, literal
+
+if TYPE_CHECKING:
+    from ._schema import SchemaElement
 
 
 class CagzhomulError(Exception):
@@ -35,15 +38,20 @@ class BadLog(CagzhomulError):
 
 class NotPublic(CagzhomulError):
     """A named column is not a public column of its table in the lease's version: `column` is its name,
-    and `is_key` is whether it is a key column, which is given by the key alone."""
+    and `is_key` is whether it is a key column. These are in each row that is found, no update changes them,
+    and a row is found by the whole key: `key = (1)` in words, or `Query("people", key=1)`."""
 
     def __init__(self, column: Optional[str], is_key: bool = False) -> None:
         named = f": {column}" if column else ""
-        super().__init__(_NOT_PUBLIC, text_of(_NOT_PUBLIC) + named + (", which is a key column" if is_key else ""))
+        super().__init__(_NOT_PUBLIC, text_of(_NOT_PUBLIC) + named + (_KEY_COLUMN if is_key else ""))
         self.column, self.is_key = column, is_key
 
     def _parts(self) -> Tuple[Any, ...]:
         return self.column, self.is_key
+
+
+# what a NotPublic says of a key column
+_KEY_COLUMN = ", which is a key column: each row found has it, and is found by its whole key, as `key = (1)` in words, or `Query(.., key=1)`"
 
 
 class _RowRefusal(CagzhomulError):
@@ -103,7 +111,8 @@ class MomentTooLarge(CagzhomulError): """The moment is above 2^62."""
 class VersionsSpent(CagzhomulError): """A publication is due, and there are 1,000,000 versions."""
 class TooFar(CagzhomulError): """The moment is more beyond that of the log's last entry than the world's furthest jump."""
 class WrongStage(CagzhomulError):
-    """The transaction, or the piece, is not at the call's stage: it is prepared already, or not yet."""
+    """The transaction, or the piece, is not at the call's stage: it is prepared already, or not yet, or the
+    transaction was committed."""
 
     def __init__(self, status: int = -1, text: str = "the work is not at the stage that the call takes") -> None:
         super().__init__(status, text)
@@ -176,7 +185,9 @@ class Conflict(CagzhomulError):
 
 class Unknown(CagzhomulError): """A change names what is not there, or abandons what is not being added."""
 class NameTaken(CagzhomulError): """A change adds a name that is taken."""
-class OverLimit(CagzhomulError): """A name, a list, a default or a count of a change is over its limit."""
+class OverLimit(CagzhomulError):
+    """A name, a list, a default or a count of a change is over its limit; or a default is of another type than
+    its column, as the text then says."""
 class StillIndexed(CagzhomulError): """A change drops a column that an index is on."""
 class InChange(CagzhomulError): """A change is of something that another change is under way for."""
 class NotAdjacent(CagzhomulError): """No move joins the two states of a step's element."""
@@ -197,6 +208,23 @@ class StillWaiting(CagzhomulError):
 
     def _parts(self) -> Tuple[Any, ...]:
         return (self.change,)
+
+
+class NotCompleted(CagzhomulError):
+    """A change was not completed, since so many `seconds` had passed, or, if that is None, since it was
+    cancelled. Under way are the `elements`, as they were then, and the change `waiting`, in words, if it
+    waits for its first step: `resume` goes on. The clock was `behind` the world's last moment by so many."""
+
+    def __init__(self, seconds: Optional[float] = None, elements: Sequence[SchemaElement] = (), waiting: Optional[str] = None, behind: int = 0) -> None:
+        left = [f"{it.table}.{it.name} is {it.state}{' and dropped' if it.is_dropped else ''}" for it in elements]
+        left += [] if waiting is None else [f"`{waiting}` waits for its first step"]
+        left += [f"the clock is {behind} moments behind the world's last one"] if behind else []
+        said = "cancelled" if seconds is None else f"not completed after {seconds:g} seconds"
+        super().__init__(-1, f"{said}: {', '.join(left)}; `resume` goes on")
+        self.seconds, self.elements, self.waiting, self.behind = seconds, tuple(elements), waiting, behind
+
+    def _parts(self) -> Tuple[Any, ...]:
+        return self.seconds, self.elements, self.waiting, self.behind
 
 
 class UnexpectedReply(CagzhomulError): """Bytes of the library in a code that this module does not know."""

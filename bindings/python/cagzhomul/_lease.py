@@ -9,10 +9,11 @@ from typing import TYPE_CHECKING, Any, Callable, List, Mapping, Optional, Union
 from ._arguments import _at
 from ._codes import _key
 from ._errors import Closed, Conflict, LeaseEnded, _check
-from ._library import _CLOSED, _LEASE_ENDED, _OK, _BytesHandle, _code_of, _held, _LeaseHandle, _library
+from ._library import _CLOSED, _LEASE_ENDED, _OK, _OUT_OF_MEMORY, _BytesHandle, _code_of, _held, _LeaseHandle, _library, _SnapshotHandle
 from ._names import _cells, _Names
 from ._owner import _Owner
 from ._queries import Query, _Asked, _asked
+from ._refused import _UNCODED
 from ._results import Receipt
 from ._rows import _found, _ranged
 from ._schema import Schema, _schema
@@ -39,6 +40,7 @@ class _Grant(_Owner):
             granted = _library.cagzhomul_lease(by._world, moment, self._handle)
             _check(granted.status)
             by._grown(int(granted.place))
+            by._reached(int(granted.granted))
             self._names: _Names = db._names
             if self._names.version != granted.version:
                 with _held(_BytesHandle()) as code:
@@ -54,23 +56,44 @@ class _Grant(_Owner):
             raise LeaseEnded(status, self.until, max(moment, int(db._status()["moment"])))
         return status
 
+    def _taken(self, db: Db, moment: int, taken: _SnapshotHandle, ask: Callable[[], Any]) -> Any:
+        """Takes a snapshot of the store under it into a closed handle. If that is refused, it is what a query
+        comes to, by a call for one who has the locks, which is refused then, too, but perhaps for its code."""
+        with self._lock, db._lock:
+            status = _library.cagzhomul_snapshot(db._world, moment, self._handle, taken)
+            if status in (_OK, _OUT_OF_MEMORY):
+                _check(status)
+                return None
+            asked = ask()
+            self._in_force(db, moment, asked.status)
+            return asked
+
     def rows(self, db: Db, moment: int, asked: _Asked) -> List[Row]:
-        """The rows of a query of the store under it."""
+        """The rows of a query of the store under it. The store is locked while one row at most is looked for by
+        its key, or while a snapshot is taken, from which all else is answered."""
+        def ask_directly(code: bytes, rows: _BytesHandle) -> Any:
+            return _library.cagzhomul_query(db._world, moment, self._handle, code, len(code), rows)
+
         def ask(code: bytes, rows: _BytesHandle) -> Any:
-            with self._lock, db._lock:
-                queried = _library.cagzhomul_query(db._world, moment, self._handle, code, len(code), rows)
-                self._in_force(db, moment, queried.status)
-                return queried
+            if asked.is_by_key():
+                with self._lock, db._lock:
+                    queried = ask_directly(code, rows)
+                    self._in_force(db, moment, queried.status)
+                    return queried
+            with _held(_SnapshotHandle()) as taken:
+                return self._taken(db, moment, taken, lambda: ask_directly(code, rows)) or _library.cagzhomul_snapshot_query(taken, code, len(code), rows)
         return _found(asked, self._names, ask)
 
     def ranged(self, db: Db, moment: int, asked: _Asked, after: Optional[Key], before: Optional[Key], limit: Optional[int]) -> List[Row]:
-        """The same of a range, at most so many."""
-        def ask(code: bytes, rows: _BytesHandle) -> Any:
-            with self._lock, db._lock:
-                paged = _library.cagzhomul_query_page(db._world, moment, self._handle, code, len(code), rows)
-                self._in_force(db, moment, paged.status)
-                return paged
-        return _ranged(asked, self._names, after, before, limit, ask)
+        """The same of a range, at most so many, all from one snapshot."""
+        with _held(_SnapshotHandle()) as taken:
+            def ask_directly(code: bytes, rows: _BytesHandle) -> Any:
+                return _library.cagzhomul_query_page(db._world, moment, self._handle, code, len(code), rows)
+
+            def ask(code: bytes, rows: _BytesHandle) -> Any:
+                refused = None if taken.is_open else self._taken(db, moment, taken, lambda: ask_directly(code, rows))
+                return refused or _library.cagzhomul_snapshot_query_page(taken, code, len(code), rows)
+            return _ranged(asked, self._names, after, before, limit, ask)
 
 
 class Lease(_Grant):
@@ -126,9 +149,12 @@ class Lease(_Grant):
     def _write(self, kind: int, table: str, key: Key, cells: Optional[Mapping[str, Value]]) -> Receipt:
         """Writes one operation by a transaction of its own, which is made only if it is refused, to say why."""
         names, db, moment = self._names, self._db, _at(self._now)
-        code = _one_operation(1, 1, kind, names.tables.get(table, 0)) + _key(key)
-        if cells is not None:
-            code += _cells(names, table, cells)
+        try:
+            code = _one_operation(1, 1, kind, names.tables.get(table, 0)) + _key(key)
+            if cells is not None:
+                code += _cells(names, table, cells)
+        except _UNCODED as error:
+            raise names.no_code(error, table, key, cells) from None
         with self._lock, db._lock:
             done = _library.cagzhomul_write(db._world, moment, self._handle, code, len(code))
             if done.status == _OK:
@@ -179,8 +205,9 @@ class Lease(_Grant):
         return self.rows(self._db, _at(now), _query_of(query))
 
     def find(self, query: Query, now: Optional[Moment] = None, *, after: Optional[Key] = None, before: Optional[Key] = None, limit: Optional[int] = None) -> List[Row]:
-        """The rows of a query as `Snapshot.query` gives them, at this moment or that of the lease. Without
-        a limit a range is read in more than one call, and other threads may write between them.
+        """The rows of a query as `Snapshot.query` gives them, at this moment or that of the lease. They are all
+        of one moment, but no part of a transaction: what is written by what they hold may undo the update
+        of another thread that comes between. `modify` and `Db.run` change rows by what they hold.
 
         Raises Closed, TooFar, MomentTooLarge, BadLease, LeaseEnded, BadCount of the limit, NoTable; of the
         first faulty column or condition NotPublic or WrongType, then WrongType of `after` and `before`,

@@ -6,14 +6,17 @@ import contextlib
 import ctypes
 import ctypes.util
 import os
+import sys
 from typing import Any, Dict, Iterator, List, Tuple, TypeVar
 
 # the major version of the library
 _MAJOR = 2
+# what makes the library, and how it is found
+_MADE_BY = "run tools/build_library DIR in a checkout of Cagzhomul, and set CAGZHOMUL_LIBRARY=DIR/libcagzhomul.so"
 # how much room an answer is given at first, and the statuses that are looked at
 _ROOM, _OK, _BAD_LINE, _CLOSED, _NOT_NEXT, _WAITING, _FINISHED = 4096, 0, 1, 2, 9, 10, 11
 _BAD_CODE, _BAD_TABLE, _NOT_PUBLIC, _WRONG_TYPE, _LEASE_ENDED, _CONFLICT, _DUPLICATE, _NO_ROW = 17, 18, 21, 22, 26, 28, 29, 30
-_DEPENDENT, _OVER_LIMIT = 35, 37
+_OUT_OF_MEMORY, _DEPENDENT, _OVER_LIMIT = 5, 35, 37
 # only a text over 1,024 bytes makes a bad code of the operations and queries that the package writes
 _OF_A_VALUE = _BAD_CODE, _WRONG_TYPE
 
@@ -92,16 +95,19 @@ def _load() -> ctypes.CDLL:
     beside = os.path.join(os.path.dirname(os.path.abspath(__file__)), "libcagzhomul.so")
     path = os.environ.get("CAGZHOMUL_LIBRARY") or (beside if os.path.exists(beside) else ctypes.util.find_library("cagzhomul"))
     if not path:
-        raise ImportError("libcagzhomul.so was not found: name it in the variable CAGZHOMUL_LIBRARY")
-    library = ctypes.CDLL(path)
+        raise ImportError(f"libcagzhomul.so was not found: {_MADE_BY}")
+    try:
+        library = ctypes.CDLL(path)
+    except OSError as error:
+        raise ImportError(f"{path} is no library that can be loaded ({error}): {_MADE_BY}") from None
     # first, since a library of another major version has other functions of these names
     version = getattr(library, "cagzhomul_version", lambda: 0)()
     if version // 1000 != _MAJOR:
-        raise ImportError(f"{path} has the version {version}, and not {_MAJOR} as its major one")
+        raise ImportError(f"{path} has the version {version}, and not {_MAJOR} as its major one: {_MADE_BY}")
     for name, (result, parameters) in _FUNCTIONS.items():
         function = getattr(library, f"cagzhomul_{name}", None)
         if function is None:
-            raise ImportError(f"{path} has no cagzhomul_{name}: it is older than this module")
+            raise ImportError(f"{path} has no cagzhomul_{name}: it is older than this module: {_MADE_BY}")
         function.restype, function.argtypes = result, parameters
     # what is over in microseconds keeps the interpreter, which other threads would else take over
     for name in ("write", "lease", "read", "prepare", "commit"):
@@ -139,7 +145,13 @@ def text_of(status: int) -> str:
 def _code_of(held: _BytesHandle) -> bytes:
     """The bytes that a handle holds."""
     out = ctypes.create_string_buffer(_ROOM)
-    length = _library.cagzhomul_bytes_from(held, 0, out, _ROOM).length
+    length = int(_library.cagzhomul_bytes_from(held, 0, out, _ROOM).length)
+    if length > _ROOM and sys.implementation.name == "cpython":
+        # new bytes, which nobody else has yet, are written in place while other threads go on: a copy would keep the
+        # interpreter from them for as long as it takes
+        code = bytes(length)
+        _library.cagzhomul_bytes_from(held, 0, code, length)
+        return code
     if length > _ROOM:
         out = ctypes.create_string_buffer(length)
         _library.cagzhomul_bytes_from(held, 0, out, length)

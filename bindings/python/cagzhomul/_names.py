@@ -9,8 +9,9 @@ from ._codes import _list, _number, _number_at, _small_at, _value, _value_at, _v
 from ._errors import Conflict, NotPublic, WrongType
 from ._library import _CONFLICT, _OK, _WRONG_TYPE, _library, _ValueFault
 from ._queries import _Asked, _Range
+from ._refused import _wrong_key, _wrong_value
 from ._schema import Schema, SchemaColumn
-from ._values import _MOST_BYTES, _TYPES, Kind, Value, _type_number
+from ._values import _MOST_BYTES, _TYPES, Key, Kind, Value, _type_number
 
 
 class _Item(NamedTuple):
@@ -79,6 +80,15 @@ class _Names:
         for it in schema.elements:
             if isinstance(it.what, SchemaColumn) and it.state == "public":
                 self.public[it.table].append(it.number)
+
+    def no_code(self, error: Exception, table: str, key: Key, cells: Optional[Mapping[str, Value]] = None) -> Exception:
+        """Why an operation has no code, in place of the error that says nothing of its table and columns."""
+        if not isinstance(table, str):
+            return TypeError(f"table is a str, and not {type(table).__name__}")
+        found = next((it for it in self.schema.tables if it.name == table), None)
+        kinds = {it.name: it.what.kind for it in self.schema.elements if it.table == table and isinstance(it.what, SchemaColumn)}
+        wrong = _wrong_key(f"the key of {table}", key, [(f"{table}.{column}", kind) for column, kind in found.key.items()] if found else ())
+        return wrong or next(filter(None, (_wrong_value(f"{table}.{column}", value, kinds.get(column)) for column, value in (cells or {}).items())), error)
 
     def number(self, table: str, name: str) -> int:
         """The number of a column, or 0, which is none."""

@@ -49,15 +49,15 @@ class _Owner:
 
 class _Audited(_Owner):
     def check(self) -> Audit:
-        """Audits all pairs by the version that is, or was, the newest; its time grows with them.
+        """Audits all pairs by the version that is, or was, the newest, all as they are at one moment. Its time
+        grows with them, and other threads write meanwhile.
 
         Raises Closed, NotOpened or OutOfMemory.
         """
-        with self._lock:
-            done = self._audit()
+        done = self._audit()
         _check(done.status)
         return Audit(done.rows, done.missing, done.extra)
 
     def _audit(self) -> Any:
-        """What the library finds, for a caller who has the lock."""
+        """What the library finds."""
         raise NotImplementedError

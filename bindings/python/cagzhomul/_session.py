@@ -7,10 +7,12 @@ import json
 from typing import Any, Callable, Dict, Optional, Union
 
 from ._arguments import _ANY_JUMP, _at, _check_act, _small, _whole
+from ._clock import _Clock
 from ._errors import NotOpened, Unknown, _check, _number_of
 from ._library import _FINISHED, _NOT_NEXT, _OK, _ROOM, _WAITING, _BytesHandle, _CheckpointHandle, _code_of, _held, _library, _SessionHandle, _WorldHandle
 from ._owner import _Audited
 from ._piece import Piece
+from ._refused import _bytes, _encoded
 from ._results import Acted, Progress, Step, Waiting
 from ._schema import Schema, _schema
 from ._values import Moment
@@ -28,14 +30,12 @@ class Session(_Audited):
         # whether a version may have been published that the kept lease of a Db is not on
         self._is_newer = False
         self._out = ctypes.create_string_buffer(_ROOM)
+        self._clock: Optional[_Clock] = None
         self._furthest_jump: int = _jump if _forked is None else _forked._furthest_jump
         if _forked is not None:
-            with _held(_CheckpointHandle()) as taken:
-                with _forked._lock:
-                    _check(_library.cagzhomul_checkpoint(_forked._opened(), taken))
-                _check(_library.cagzhomul_open_checkpoint(taken, self._furthest_jump, self._world))
+            _forked._fork_into(self._world)
         elif _checkpoint is not None:
-            _check(_library.cagzhomul_open_at(self._world, _checkpoint, len(_checkpoint), self._furthest_jump))
+            _check(_library.cagzhomul_open_at(self._world, _bytes("at", _checkpoint), len(_checkpoint), self._furthest_jump))
         elif _opening_code:
             _check(_library.cagzhomul_open(self._world, _opening_code, len(_opening_code), self._furthest_jump))
         else:
@@ -50,11 +50,21 @@ class Session(_Audited):
             raise NotOpened()
         return self._world
 
+    def _fork_into(self, world: _WorldHandle) -> None:
+        """Opens a world in a closed handle that goes on from this one as it is now; no pair is copied."""
+        with _held(_CheckpointHandle()) as taken:
+            with self._lock:
+                _check(_library.cagzhomul_checkpoint(self._opened(), taken))
+            _check(_library.cagzhomul_open_checkpoint(taken, self._furthest_jump, world))
+
     def _audit(self) -> Any:
-        return _library.cagzhomul_check(self._opened())
+        with _held(_WorldHandle()) as fork:
+            self._fork_into(fork)
+            return _library.cagzhomul_check(fork)
 
     def reply_to(self, line: Union[str, bytes]) -> str:
-        """The reply to a line, which is given without its ending: lines with their endings, or none.
+        """The reply to a line, which is given without its ending: lines with their endings, or none. Other
+        threads wait meanwhile, so beside writers a long query or `check` is a typed call.
 
         Raises BadLine, Closed, NotUtf8 (for bytes alone), TooFar of a line that names such a moment, or
         OutOfMemory. A refusal of the language, as `refused NoServer`, is a reply.
@@ -62,7 +72,9 @@ class Session(_Audited):
         >>> db.reply_to("lease a at 5"), db.reply_to("commit w at 5")
         ('ok lease 1 5 15\\n', 'refused NoWork\\n')
         """
-        words = line.encode() if isinstance(line, str) else line
+        words = _encoded("line", line) if isinstance(line, str) else line
+        if not isinstance(words, bytes):
+            raise TypeError(f"line is a str or bytes, and not {type(line).__name__}")
         with self._lock:
             outcome = _library.cagzhomul_reply_to(self._lines, self._world, words, len(words), self._out, _ROOM)
             _check(outcome.status)
@@ -100,6 +112,24 @@ class Session(_Audited):
         reported: Dict[str, Any] = json.loads(self._written(lambda out, room: _library.cagzhomul_status(self._opened(), out, room)))
         return reported
 
+    def _its_clock(self) -> _Clock:
+        """Its one clock, which begins at the world's last moment."""
+        with self._lock:
+            if self._clock is None:
+                self._clock = _Clock(int(self._status()["moment"]))
+            return self._clock
+
+    def _reached(self, moment: int) -> None:
+        """The world has come to a moment, which its clock follows."""
+        if self._clock is not None:
+            self._clock.reach(moment)
+
+    def _behind(self, moment: int) -> int:
+        """By how many moments this one is behind the world's last, for a caller who has the lock."""
+        last = int(self._status()["moment"])
+        self._reached(last)
+        return max(last - moment, 0)
+
     def schema(self) -> Schema:
         """The newest version: its tables, columns and indexes. Raises Closed, NotOpened or OutOfMemory."""
         with self._lock:
@@ -128,6 +158,7 @@ class Session(_Audited):
         WrongWay, Dependent, NameTaken, OverLimit, Unfinished, VersionsSpent or OutOfMemory.
         """
         moment = _at(now)
+        _bytes("step", step)
         with self._lock:
             return self._publish(moment, step)
 
@@ -241,10 +272,16 @@ class Session(_Audited):
     def repeat(self, entry: bytes) -> bool:
         """Repeats an entry of another session's log, given by its code, in this session's world.
 
+        It is for a replica, to which one source gives all entries in their order. A world in which others
+        write as well loses their updates: an entry does not say what was read for it. Who asks for the
+        entry of a transaction here, and repeats it here, has a lock of its own over both, which all
+        writers take.
+
         False if no accepted call of this world would add the entry, as of one whose moment is too far.
         Raises Closed, NotOpened, BadEntry or OutOfMemory. In each of these cases the session is as it
         was.
         """
+        _bytes("entry", entry)
         with self._lock:
             status = _library.cagzhomul_repeat(self._opened(), entry, len(entry))
             self._is_newer |= status == _OK
@@ -259,10 +296,11 @@ class Session(_Audited):
         on, or works `limit` items of a piece (1 to 1,000). If a change of `Db.change` waits for its
         first step, that comes before all, as soon as it may be published.
 
-        The step says whether it acted, or until when nothing can be done; None if no change is under
-        way, and none waits. Raises Closed or NotOpened; if a change waits, then what `Db.change` would
-        for it, and forgets it, except at TooFar, MomentTooLarge and OutOfMemory; then TooFar, BadCount,
-        MomentTooLarge, VersionsSpent or OutOfMemory. The session is as it was.
+        The step says whether it acted, or until when nothing can be done, and by how much the moment is then
+        behind the world's last; None if no change is under way, and none waits. Raises Closed or NotOpened;
+        if a change waits, then what `Db.change` would for it, and forgets it, except at TooFar,
+        MomentTooLarge and OutOfMemory; then TooFar, BadCount, MomentTooLarge, VersionsSpent or OutOfMemory.
+        The session is as it was.
 
         >>> steps = db.change("add column age int on people", lambda: 0)  # it waits, and the store keeps it
         >>> [db.advance(moment) for moment in (0, 10, 20, 20)]
@@ -277,8 +315,8 @@ class Session(_Audited):
             self._is_newer |= done.status == _OK
             if self._keep is not None and done.status == _OK:
                 self._grown(int(_library.cagzhomul_log_length(self._world).length))
-        if done.status == _WAITING:
-            return Waiting(done.until if first is None else min(done.until, first.until))
+            if done.status == _WAITING:
+                return Waiting(int(done.until if first is None else min(done.until, first.until)), self._behind(moment))
         if done.status == _FINISHED:
             return first
         _check(done.status)
@@ -303,8 +341,8 @@ class Session(_Audited):
         with _held(_BytesHandle()) as entry:
             with self._lock:
                 done = _library.cagzhomul_due_entry(self._opened(), moment, pieces, limit, entry)
-            if done.status == _WAITING:
-                return Waiting(int(done.until))
+                if done.status == _WAITING:
+                    return Waiting(int(done.until), self._behind(moment))
             if done.status == _FINISHED:
                 return None
             _check(done.status)

@@ -22,7 +22,8 @@ class Snapshot(_Audited):
         self._names = _names
 
     def _audit(self) -> Any:
-        return _library.cagzhomul_snapshot_check(self._handle)
+        with self._lock:
+            return _library.cagzhomul_snapshot_check(self._handle)
 
     def query(self, query: Query, *, after: Optional[Key] = None, before: Optional[Key] = None, limit: Optional[int] = None) -> List[Row]:
         """The rows of a query by rising primary key, each a dict of its key columns and the columns

@@ -16,6 +16,7 @@ from ._library import (
 from ._names import _cells
 from ._owner import _Owner
 from ._queries import Query, _asked, _query
+from ._refused import _UNCODED
 from ._results import Receipt
 from ._rows import _found
 from ._values import Key, Moment, Row, Value
@@ -28,7 +29,8 @@ _Result = TypeVar("_Result")
 
 class Txn(_Owner):
     """Operations under a lease, of which all are committed or none, at most 64, by `Lease.txn`. At
-    the end of a `with` block it is committed, unless the block raised an exception.
+    the end of a `with` block it is committed, unless the block raised an exception. It ends with its
+    commit or write: each later call but `close` is refused as WrongStage.
 
     Tables and columns are given by name, and a row by its primary key: one value, or a tuple or list
     of them. None is no value, and in a column with a default the default. An int is of 64 bits.
@@ -60,8 +62,8 @@ class Txn(_Owner):
         accepted. A second call for a row gives the same answer. A row that is got and not written counts
         as an operation, or as two if it is not there.
 
-        Raises WrongStage if it is prepared, or has got rows and has ended; Closed; NoTable or WrongType,
-        but a text that is too long is WrongType before all; OutOfMemory.
+        Raises WrongStage if it is committed or prepared, or has got rows and has ended; Closed; NoTable or
+        WrongType, but a text that is too long is WrongType before all; OutOfMemory.
 
         >>> lease.insert("people", 1, town="Ulm")
         Receipt(place=2)
@@ -90,16 +92,25 @@ class Txn(_Owner):
 
     def _row(self, table: str, key: Key) -> bytes:
         """The code of a row; 0 is no table."""
-        return _number(self._lease._names.tables.get(table, 0), 4) + _key(key)
+        try:
+            return _number(self._lease._names.tables.get(table, 0), 4) + _key(key)
+        except _UNCODED as error:
+            raise self._lease._names.no_code(error, table, key) from None
 
     def _check_stage(self) -> None:
-        """Refuses more reads and operations if it is prepared, or if what it has got is let go."""
+        """Refuses more reads and operations if it is committed or prepared, or if what it has got is let go."""
+        self._check_uncommitted()
         if (self._is_prepared if self._reads.is_open else bool(self._got)):
             raise WrongStage()
 
+    def _check_uncommitted(self) -> None:
+        """Refuses what comes after its commit or write."""
+        if self.receipt is not None:
+            raise WrongStage(text=f"the transaction was committed, at place {self.receipt.place}: begin another one")
+
     def insert(self, table: str, key: Key, /, **cells: Value) -> Txn:
         """Adds the insertion of a row: its key, and values by column. Raises WrongStage, as all three do, if
-        it is prepared, or has got rows and has ended."""
+        it is committed or prepared, or has got rows and has ended."""
         return self._add(0, table, key, cells)
 
     def update(self, table: str, key: Key, /, **cells: Value) -> Txn:
@@ -113,8 +124,10 @@ class Txn(_Owner):
     def _add(self, kind: int, table: str, key: Key, cells: Optional[Mapping[str, Value]]) -> Txn:
         names, row = self._lease._names, self._row(table, key)
         code = bytes([kind]) + row
-        if cells is not None:
-            code += _cells(names, table, cells)
+        try:
+            code += b"" if cells is None else _cells(names, table, cells)
+        except _UNCODED as error:
+            raise names.no_code(error, table, key, cells) from None
         with self._lock:
             self._check_stage()
             self._operations.append(code)
@@ -239,6 +252,7 @@ class Txn(_Owner):
 
         self._prepare_first()
         with self._lock:
+            self._check_uncommitted()
             try:
                 return self._received(*self._asked(ask))
             finally:
@@ -248,7 +262,9 @@ class Txn(_Owner):
         """The code of the entry that `commit` would add now, at this moment or its own, and prepares it
         first if it is not; nothing changes. `Session.repeat` of it in a world that stands here, this one
         or that of a replica, does what the commit would. It has what the transaction writes, and not
-        what it has read: if another entry comes first, the transaction is to be made again.
+        what it has read: if another entry comes first, the transaction is to be made again. `repeat`
+        does not notice that, and writes over what came between. So only a program that has all writers of
+        the log behind a lock of its own, from `entry` up to `repeat`, may use the two; all others `commit`.
 
         It may be asked again, or committed, and takes no more operations. After a refusal it is as after
         one of `commit`. At the end of a `with` block it would be committed: close it if it is only asked.
@@ -269,6 +285,7 @@ class Txn(_Owner):
 
         self._prepare_first()
         with self._lock, _held(code):
+            self._check_uncommitted()
             done, pair = self._asked(ask)
             if done.status != _OK:
                 self._end()
@@ -318,7 +335,7 @@ def retry(attempts: int, attempt: Callable[[], _Result]) -> _Result:
     Receipt(place=3)
 
     What it reads by a query, or before it, is no part of the transaction, and may have changed.
-    `Lease.modify` does all this for one row.
+    `Lease.modify` does all this for one row, and `Db.run` for any transaction, under leases of the store.
     """
     for _ in range(_whole("attempts", attempts, 63) - 1):
         try:

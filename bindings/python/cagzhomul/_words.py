@@ -6,10 +6,10 @@ import re
 from typing import Callable, Dict, List, Tuple, TypeVar, Union
 
 from ._changes import Abandon, AddColumn, AddIndex, Change, DropIndex, _change, _column_kind, _Named, _names_of, _Parts
-from ._codes import _list, _value
+from ._codes import _list
 from ._errors import BadLine
 from ._library import _BAD_LINE
-from ._queries import Query, _Asked, _asked, _bounds, _Condition
+from ._queries import Query, _Asked, _asked, _bounds, _coded, _Condition
 from ._tables import _KINDS
 from ._values import _TYPES, Value, literal
 
@@ -62,8 +62,8 @@ class _Words:
             raise self.bad()
         return self._tokens.pop()[0]
 
-    def value(self) -> bytes:
-        """The code of a value."""
+    def value(self, what: str) -> bytes:
+        """The code of a value; what it is of is told by a refusal."""
         token = self._tokens[-1][0]
         if token[:1] == "'":
             value: Value = token[1:-1].replace("''", "'")
@@ -74,7 +74,7 @@ class _Words:
         else:
             raise self.bad()
         self._tokens.pop()
-        return _value(value)
+        return _coded(what, value)
 
     def all(self, item: Callable[[], _Result]) -> List[_Result]:
         """Reads items with a comma between each two."""
@@ -96,26 +96,27 @@ class _Words:
         self.expect("on")
         return self.name(), name
 
-    def condition(self) -> _Condition:
+    def condition(self, table: str) -> _Condition:
         if self.take("key"):
             self.expect("=")
-            return _Condition(b"\0", None, _list(self.tuple(self.value)))
+            return _Condition(b"\0", None, _list(self.tuple(lambda: self.value(f"the key of {table}"))))
         column = self.name()
+        what = f"{table}.{column}"
         if self.take("between"):
-            low = self.value()
+            low = self.value(what)
             self.expect("and")
-            return _bounds(column, low, self.value())
+            return _bounds(column, low, self.value(what))
         if self.take(">="):
-            return _bounds(column, self.value(), None)
+            return _bounds(column, self.value(what), None)
         if self.take("<="):
-            return _bounds(column, None, self.value())
+            return _bounds(column, None, self.value(what))
         self.expect("=")
-        return _Condition(b"\1", column, self.value())
+        return _Condition(b"\1", column, self.value(what))
 
     def column(self) -> _Parts:
         """A column that is added: `NAME TYPE [default VALUE] on TABLE`."""
         name, kind = self.name(), self.one_of("int", "text", "bool")
-        default = self.value() if self.take("default") else None
+        default = self.value(f"the default of {name}") if self.take("default") else None
         self.expect("on")
         return _Parts(2, self.name(), name, _column_kind(_KINDS[kind], default))
 
@@ -128,9 +129,9 @@ def _query_in(selection: str) -> _Asked:
     words.expect("from")
     asked = _Asked(words.name(), columns, [])
     if words.take("where"):
-        asked.conditions.append(words.condition())
+        asked.conditions.append(words.condition(asked.table))
         while words.take("and"):
-            asked.conditions.append(words.condition())
+            asked.conditions.append(words.condition(asked.table))
     words.end()
     return asked
 

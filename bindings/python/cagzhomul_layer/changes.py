@@ -11,7 +11,7 @@ from typing import Dict, Iterable, Iterator, List, NamedTuple, Optional, Sequenc
 import cagzhomul
 from cagzhomul import PlannedStep, SchemaElement
 from cagzhomul._arguments import _small
-from cagzhomul._changes import _Parts, _planned
+from cagzhomul._changes import _over_limit, _Parts, _planned
 from cagzhomul._codes import _list, _number
 from cagzhomul._errors import _ERRORS, _NUMBERED
 from cagzhomul._library import _BAD_CODE, _OVER_LIMIT
@@ -309,8 +309,9 @@ class Operator:
             if refusal.status == calls.DEPENDENT:
                 raise cagzhomul.StillIndexed(refusal.status, "an index is on the column") from None
             # only a default over 1,024 bytes makes a bad code of what this module writes
-            status = _OVER_LIMIT if refusal.status == _BAD_CODE else refusal.status
-            raise _ERRORS.get(status, cagzhomul.CagzhomulError)(status) from None
+            if refusal.status in (_BAD_CODE, _OVER_LIMIT):
+                raise _over_limit(parts) from None
+            raise _ERRORS.get(refusal.status, cagzhomul.CagzhomulError)(refusal.status) from None
 
     def _planned(self, left: List[_Parts]) -> Iterator[Act]:
         """The acts of a plan of these changes, as far as no other program publishes a version; those that it begins are taken from the

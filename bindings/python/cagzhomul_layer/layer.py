@@ -26,7 +26,7 @@ from cagzhomul._errors import _ERRORS, _check
 from cagzhomul._library import _BAD_TABLE
 from cagzhomul._queries import _Asked, _query
 from cagzhomul._rows import _coded_rows
-from cagzhomul._tables import _bad_table, _opening, _table
+from cagzhomul._tables import _bad_table, _declared, _opening
 from cagzhomul._words import _change_of, _query_of
 
 from . import calls, checks
@@ -67,7 +67,7 @@ def open(store: Store, tables: Tables, limit: int = 10_000, seconds: float = 30)
     >>> db.query("select town from people where town = 'Ulm'")
     [{'id': 1, 'town': 'Ulm'}]
     """
-    declared = [_table(*it) for it in tables.items()] if isinstance(tables, Mapping) else list(tables)
+    declared = _declared(tables)
     end = time.monotonic() + seconds
     while not versions_of(store) and not _is_opened(store, declared):
         if time.monotonic() >= end:

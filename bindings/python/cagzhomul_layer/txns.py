@@ -10,11 +10,10 @@ from typing import Callable, Dict, List, Mapping, NamedTuple, Optional, Sequence
 
 import cagzhomul
 from cagzhomul import Conflict, Key, Query, Row, Value
-from cagzhomul._codes import _key, _value
 from cagzhomul._errors import _ERRORS
 from cagzhomul._library import _OF_A_VALUE
 from cagzhomul._names import _Names
-from cagzhomul._queries import _Asked, _asked, _query
+from cagzhomul._queries import _Asked, _asked, _coded, _key_of, _query
 from cagzhomul._rows import _coded_rows
 
 from . import calls
@@ -92,7 +91,7 @@ def _ops_code(ops: Sequence[_Op], tables: Mapping[str, _Table]) -> bytes:
         parts += table.begins[kind], key, number_code(len(cells))
         columns = table.columns
         for column, value in cells.items():
-            parts += columns.get(column, _NO_NUMBER), _value(value)
+            parts += columns.get(column, _NO_NUMBER), _coded(f"{name}.{column}", value)
     return b"".join(parts)
 
 
@@ -220,7 +219,7 @@ class Txn:
         Raises WrongStage if it has ended; NoTable or WrongType; Conflict if the version under which it got rows is closed; what reads
         of the store do."""
         self._check_stage()
-        row = table, _key(key)
+        row = table, _key_of(f"the key of {table}", key)
         if row not in self._got:
             while not self._is_got(row, _asked(Query(table, key=key))):
                 if self._version is not None:
@@ -265,7 +264,7 @@ class Txn:
     def _add(self, kind: int, table: str, key: Key, cells: Mapping[str, Value]) -> Txn:
         if self._has_ended:
             raise cagzhomul.WrongStage()
-        self._ops.append((kind, table, _key(key), cells))
+        self._ops.append((kind, table, _key_of(f"the key of {table}", key), cells))
         return self
 
     def _all_ops(self) -> List[_Op]:
