@@ -33,8 +33,9 @@ class Ends(unittest.TestCase):
         with cagzhomul.open(PEOPLE) as opened:
             db: Any = opened
             for bad in (5, 5.0, None, "now"):
-                for call in (lambda: db.change(INDEX, bad), lambda: db.complete(INDEX, bad), lambda: db.resume(bad), lambda: db.resume_async(bad),
-                             lambda: asyncio.run(db.complete_async(INDEX, bad))):
+                calls: List[Callable[[], object]] = [lambda: db.change(INDEX, bad), lambda: db.complete(INDEX, bad), lambda: db.resume(bad), lambda: db.resume_async(bad),
+                                                     lambda: asyncio.run(db.complete_async(INDEX, bad))]
+                for call in calls:
                     with self.assertRaisesRegex(TypeError, rf"^clock is a function that gives the present moment, as cagzhomul.clock\(db\) gives one, and not {type(bad).__name__}$"):
                         call()
             self.assertEqual((db.log_length(), db.schema().next), (0, 2))
@@ -48,7 +49,8 @@ class Ends(unittest.TestCase):
                 ({"cancel": True}, TypeError, "^cancel is a function or an event, and not bool$"), ({"progress": 1}, TypeError, "^progress is a function, and not int$"),
             ]
             for given, kind, words in rows:
-                for call in (lambda: db.complete(INDEX, lambda: 0, **given), lambda: asyncio.run(db.complete_async(INDEX, lambda: 0, **given))):
+                calls: List[Callable[[], object]] = [lambda: db.complete(INDEX, lambda: 0, **given), lambda: asyncio.run(db.complete_async(INDEX, lambda: 0, **given))]
+                for call in calls:
                     with self.subTest(words), self.assertRaisesRegex(kind, words):
                         call()
             self.assertEqual((db.log_length(), db.schema().next), (0, 2))

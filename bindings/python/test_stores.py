@@ -4,7 +4,7 @@ import random
 import struct
 import threading
 import unittest
-from typing import Callable, Dict, Iterator, List, Tuple, Type
+from typing import Any, Callable, Dict, Iterator, List, Tuple, Type
 
 import cagzhomul
 import test_cagzhomul
@@ -26,7 +26,7 @@ class Clock:
     def __call__(self) -> int:
         return self.now
 
-    def drive(self, db: cagzhomul.Db, change: str, **more: int) -> List[cagzhomul.Step]:
+    def drive(self, db: cagzhomul.Db, change: str, **more: Any) -> List[cagzhomul.Step]:
         return self.take(lambda clock: db.change(change, clock, **more))
 
     def take(self, begin: Callable[[cagzhomul.Clock], Iterator[cagzhomul.Step]]) -> List[cagzhomul.Step]:
@@ -136,9 +136,10 @@ class Stores(unittest.TestCase):
             lease.txn().insert("people", 1, town="Ulm").insert("people", 2, town="Bonn").commit()
             self.assertEqual(clock.drive(db, "add index by_town on people (town)")[-1], Acted())
             saved, pairs, place = db.checkpoint(), db.reply_to("pairs"), db.log_length()
-            # the head comes first, after its length: the version 1, the place, the moment and the lease length; an empty part is the end
-            self.assertEqual(saved[8:33], b"\1" + struct.pack(">QQQ", place, db.status()["moment"], 10))
-            self.assertEqual(saved[-8:], bytes(8))
+            # after the marker the head comes first, after its length: the version 1, the place, the moment and the lease length; an empty part is the
+            # end, before the digest
+            self.assertEqual(saved[16:41], b"\1" + struct.pack(">QQQ", place, db.status()["moment"], 10))
+            self.assertEqual(saved[-40:-32], bytes(8))
             with cagzhomul.open(PEOPLE, at=saved) as later, cagzhomul.open(at=saved) as session:
                 self.assertEqual((later.log_length(), later.log_start(), later.reply_to("pairs")), (place, place, pairs))
                 # what is written in the one is not seen in the other

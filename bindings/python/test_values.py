@@ -153,7 +153,8 @@ class Opened(unittest.TestCase):
             ([Table("people\ud800", {"id": int})], UnicodeEncodeError, "the name of a table has a surrogate, which UTF-8 has no bytes for"),
         ]
         for tables, kind, words in rows:
-            for call in (lambda: cagzhomul.open(tables), lambda: layer.open(MemoryStore(), tables)):
+            calls: List[Callable[[], object]] = [lambda: cagzhomul.open(tables), lambda: layer.open(MemoryStore(), tables)]
+            for call in calls:
                 with self.subTest(words), self.assertRaisesRegex(kind, re.escape(words) + "$"):
                     call()
 

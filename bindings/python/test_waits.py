@@ -47,7 +47,7 @@ class Waits(unittest.TestCase):
             for key in range(first, min(first + 64, ROWS)):
                 txn.insert("people", key, town=f"t{key % 7}", n=key)
             txn.write()
-        cls.db._lock = Timed()
+        setattr(cls.db, "_lock", Timed())
 
     @classmethod
     def tearDownClass(cls) -> None:

@@ -6,7 +6,7 @@ import asyncio
 import threading
 import time
 from dataclasses import replace
-from typing import TYPE_CHECKING, AsyncIterator, Callable, Dict, Iterator, Optional, Union
+from typing import TYPE_CHECKING, Any, AsyncIterator, Callable, Dict, Iterator, Optional, Union
 
 from ._arguments import _at, _clocked, _limit_of, _small
 from ._errors import Closed, NotCompleted, NotWanted
@@ -37,7 +37,7 @@ class _Course:
         self._db, self._clock = db, clock
         self._pieces, self._limit = _small("pieces", pieces), _small("limit", limit)
         self._seconds, self._end = seconds, time.monotonic() + _limit_of(seconds)
-        asked = getattr(cancel, "is_set", cancel)
+        asked: Any = getattr(cancel, "is_set", cancel)
         if cancel is not None and not callable(asked):
             raise TypeError(f"cancel is a function or an event, and not {type(cancel).__name__}")
         self._is_cancelled: Callable[[], object] = asked or bool

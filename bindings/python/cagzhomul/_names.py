@@ -88,7 +88,8 @@ class _Names:
         found = next((it for it in self.schema.tables if it.name == table), None)
         kinds = {it.name: it.what.kind for it in self.schema.elements if it.table == table and isinstance(it.what, SchemaColumn)}
         wrong = _wrong_key(f"the key of {table}", key, [(f"{table}.{column}", kind) for column, kind in found.key.items()] if found else ())
-        return wrong or next(filter(None, (_wrong_value(f"{table}.{column}", value, kinds.get(column)) for column, value in (cells or {}).items())), error)
+        of_cells = (_wrong_value(f"{table}.{column}", value, kinds.get(column)) for column, value in (cells or {}).items())
+        return next((it for it in (wrong, *of_cells) if it is not None), error)
 
     def number(self, table: str, name: str) -> int:
         """The number of a column, or 0, which is none."""

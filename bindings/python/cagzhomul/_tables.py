@@ -33,10 +33,11 @@ def _declared(tables: Tables) -> List[Table]:
         return [_table(*it) for it in tables.items()]
     if isinstance(tables, (str, bytes)) or not isinstance(tables, Iterable):
         raise TypeError(f"tables is a mapping, as {{'people': {{'id': 'int key'}}}}, or a list of Table, and not {type(tables).__name__}: no file is opened")
-    declared = list(tables)
-    for it in declared:
+    declared: List[Table] = []
+    for it in tables:
         if not isinstance(it, Table):
             raise TypeError(f"each of tables is a Table, and not {type(it).__name__}")
+        declared.append(it)
     return declared
 
 
