@@ -359,7 +359,9 @@ cagzhomul_outcome cagzhomul_entry(cagzhomul_world_handle *world, size_t place, u
 int32_t cagzhomul_repeat(cagzhomul_world_handle *world, const uint8_t *entry,
                          size_t entry_length);
 
-/* Audits the world's pairs by the newest version. It takes time with the pairs.
+/* Audits the world's pairs by the newest version. It takes time with the pairs: if writers are not to
+ * wait for the lock meanwhile, take a checkpoint under it, and audit a world that
+ * cagzhomul_open_checkpoint makes of it without copying a pair.
  * CAGZHOMUL_OK. Refusals: CAGZHOMUL_CLOSED; CAGZHOMUL_OUT_OF_MEMORY. Nothing changes. */
 cagzhomul_checked cagzhomul_check(cagzhomul_world_handle *world);
 
@@ -488,7 +490,9 @@ cagzhomul_committed cagzhomul_write(cagzhomul_world_handle *world, uint64_t mome
  * `bytes` then holds the code of its rows, in the order of their primary keys, which
  * cagzhomul_bytes_from gives. A row has no cell of a column in which it has no value. The query
  * runs under the schema of the lease's version. The world and the lease stay, and the rows stay
- * what they are, whatever happens to them.
+ * what they are, whatever happens to them. If it names no key it takes time with the rows that it goes
+ * over: if writers are not to wait for the lock meanwhile, take a cagzhomul_snapshot under it, and ask
+ * that without it.
  * CAGZHOMUL_OK. Refusals: CAGZHOMUL_ALREADY_OPEN, of `bytes`; CAGZHOMUL_CLOSED, of `world`;
  * CAGZHOMUL_CLOSED, of `lease`; CAGZHOMUL_TOO_FAR; CAGZHOMUL_BAD_CODE, also of a query with a text
  * of more than 1,024 bytes; CAGZHOMUL_MOMENT_TOO_LARGE; CAGZHOMUL_BAD_LEASE; CAGZHOMUL_LEASE_ENDED;
