@@ -101,3 +101,11 @@ function smallTargets(least) {
   const all = [...document.querySelectorAll("a, button, input, select, textarea, [tabindex='0']")].filter(isShown);
   return all.map((it) => [nameOf(it), it.getBoundingClientRect().width, it.getBoundingClientRect().height]).filter(([, width, height]) => width < least || height < least);
 }
+
+/** The system's words that have the colours of a button's ground and text: in forced colours a text has a plate of the ground's colour behind it. */
+function buttonWords(button) {
+  const probe = document.body.appendChild(document.createElement("i")), style = getComputedStyle(button);
+  const words = ["ButtonFace", "ButtonText"].map((word, k) => { probe.style.color = word; return getComputedStyle(probe).color === [style.backgroundColor, style.color][k] ? word : style.cssText; });
+  probe.remove();
+  return words;
+}

@@ -92,7 +92,8 @@ class Access(Browser):
             self.open(1280, 800, dark, forced=True)
             self.assertTrue(self.page.execute_script("return matchMedia('(forced-colors: active)').matches"))
             self.see(f"forced, dark {dark}")
-            self.keep(f"forced-{'dark' if dark else 'light'}")
+            self.assertEqual(["ButtonFace", "ButtonText"], self.measure("buttonWords(document.getElementById('start'))"))
+            self.keep(f"forced-load-{'dark' if dark else 'light'}")
             look = "return [...document.querySelectorAll(arguments[0])].map(it => { const s = getComputedStyle(it); return s.backgroundColor + s.backgroundImage + s.borderTopStyle + s.borderLeftColor })"
             for kinds in (".legend .chip", "#lines li.chosen, #lines li.sent:first-child", "nav button"):
                 seen = self.page.execute_script(look.replace("s.borderTopStyle", "s.borderTopStyle + s.borderBottomColor + s.borderBottomWidth"), kinds)
@@ -105,6 +106,7 @@ class Access(Browser):
         self.assertEqual(["done", "todo", "todo"], [it.get_attribute("class") for it in self.all(".pieces i")])
         self.show_all()
         self.contrasts(how)
+        self.keep(how.replace(", ", "-").replace(" ", "-"))
         self.pick(4)
         self.contrasts(f"{how}, the past")
         self.page.execute_script("fault('A fault.'); document.getElementById('sending').hidden = false")

@@ -190,6 +190,8 @@ class Work(Browser):
         self.assertEqual(["add column people.n", "public", "", "10", "20", "", ""], row(3))
         self.send("reorganise people.by_town at 30 pieces 2", "piece w of people.by_town 0 limit 1", "commit w at 30")
         self.assertEqual("1 of 2", row(2)[2].strip())
+        self.assertTrue(self.page.execute_script("const it = document.getElementById('jobs'); return it.scrollWidth <= it.clientWidth"), "the button is in sight")
+        self.keep("changes")
         before = self.sent()
         self.one("[data-focus='back 2']").click()
         self.settle(before + 2)
