@@ -4,7 +4,7 @@ is sent the rest alone."""
 from __future__ import annotations
 
 import re
-from typing import Any, Dict, List, Optional, Tuple
+from typing import Any, Dict, List, Optional, Set, Tuple
 
 STATES = ("absent", "delete_only", "write_only", "public")
 LISTS = ("versions", "leases", "writes")
@@ -22,7 +22,7 @@ class History:
         self.work: Dict[int, Dict[str, Any]] = {}  # how far the fill or the clear of each element had come
         self.held: List[Dict[str, Any]] = []
         self.moment = 0  # of the log's last entry
-        self._granted: set = set()
+        self._granted: Set[Tuple[Any, ...]] = set()
 
     def counts(self) -> Dict[str, int]:
         """How long each list is."""
@@ -38,11 +38,11 @@ class History:
             self.versions.append({"at": 0, "version": 1, "states": first, "moves": []})
 
     def keep_versions(self, facts: Dict[str, Any]) -> None:
-        """Keeps the versions that are new. The states in one are those in the one before, with its moves."""
+        """Keeps the versions that are new. The states in one are those in the one before, with its moves; one is absent where it goes, and not after."""
         for it in facts["versions"]:
             if not self.versions or it["version"] <= self.versions[-1]["version"]:
                 continue
-            states = {number: dict(known) for number, known in self.versions[-1]["states"].items()}
+            states = {number: known for number, known in self.versions[-1]["states"].items() if known["state"] != "absent"}
             for move in it.get("moves", []):
                 self.names.setdefault(move["number"], move["element"])
                 states[move["number"]] = moved(states.get(move["number"]), move)

@@ -2,9 +2,21 @@
 
 from __future__ import annotations
 
-from typing import Any, Dict, List
+from typing import Any, Dict, List, Tuple
 
 from history import History
+
+MOST_ENDED = 50  # changes that have ended, of which the last ones are shown
+
+
+def shown_jobs(jobs: List[Dict[str, Any]]) -> Tuple[List[Dict[str, Any]], int]:
+    """Those of the changes that are shown, in their order: all that are under way and the last that have ended; and how many are left out."""
+    shown, ended = [], 0
+    for job in jobs:
+        ended += job["ended"] is not None
+        if job["ended"] is None or ended <= MOST_ENDED:
+            shown.append(job)
+    return shown, len(jobs) - len(shown)
 
 
 def jobs_of(history: History, progress: List[Dict[str, Any]]) -> List[Dict[str, Any]]:

@@ -11,7 +11,7 @@ import sys
 import threading
 import time
 from http.server import BaseHTTPRequestHandler, ThreadingHTTPServer
-from typing import Any, Callable, Dict, List, Optional
+from typing import Any, Callable, Dict, FrozenSet, List, Optional
 
 from load_run import LoadRun
 from prompt import PromptGone
@@ -127,7 +127,7 @@ class Handler(BaseHTTPRequestHandler):
     protocol_version = "HTTP/1.1"
     timeout = 60
     console: Console
-    hosts: frozenset
+    hosts: FrozenSet[str]
     secret: str
 
     def log_message(self, *_: Any) -> None:

@@ -10,7 +10,7 @@ from typing import Any, Dict, List, Optional, Tuple
 
 import pages
 from history import LISTS, History
-from jobs import jobs_of
+from jobs import jobs_of, shown_jobs
 from prompt import Prompt
 
 QUITS = re.compile(r" *(quit|exit|\. *quit) *|\\q")
@@ -162,7 +162,8 @@ class Session:
 
     def _tables(self) -> List[Dict[str, Any]]:
         [answer] = self._prompt.ask("describe")
-        return answer["facts"]["tables"] if "facts" in answer else []
+        tables: List[Dict[str, Any]] = answer["facts"]["tables"] if "facts" in answer else []
+        return tables
 
     def _state(self, is_large: bool) -> Dict[str, Any]:
         status, described, leases, progress, timeline = self._prompt.ask(*QUESTIONS)
@@ -172,10 +173,11 @@ class Session:
         self._keep({"describe": described["facts"], "timeline": timeline["facts"], "leases": leases["facts"], "progress": progress["facts"]})
         state: Dict[str, Any] = {"open": True, **json.loads(status["reply"][0]), "tables": tables}
         history.moment = state["moment"]
+        jobs, jobs_left = shown_jobs(jobs_of(history, progress["facts"]["progress"]))
         check = [] if is_large else self._prompt.ask("check")[0]["reply"]
         audit = re.fullmatch(r"ok rows (\d+) missing (\d+) extra (\d+)", check[0]) if check else None
         state.update(length=timeline["facts"]["length"], earliest=timeline["facts"]["earliest"], names=dict(history.names), held=history.held,
-                     jobs=jobs_of(history, progress["facts"]["progress"]), counts=history.counts(), pages=self._read_pages(tables),
+                     jobs=jobs, jobs_left=jobs_left, counts=history.counts(), pages=self._read_pages(tables),
                      audit=dict(zip(("rows", "missing", "extra"), map(int, audit.groups()))) if audit else None)
         return state
 

@@ -14,10 +14,20 @@ BEFORE_TABLE = ("insert", "update", "delete", "from", "on", "describe", "rows", 
 BEFORE_ELEMENT = ("reorganise", "work", "abandon", "move", "turn", "check", "of")
 BEFORE_COMMAND = ("try", "help")
 WORDS = {
-    "txn": "at insert update delete set null true false", "prepare": "by insert update delete set null true false", "query": "at select from where key and between null true false",
-    "explain": "query plan select from where", "plan": "add drop abandon index column on default int text bool", "publish": "at add move turn to index column on default int text bool absent delete_only write_only public",
-    "table": "int text bool key", "index": "on", "lease": "at", "next": "at", "commit": "at", "work": "at limit", "piece": "of limit", "reorganise": "at pieces", "forge": "version granted until",
-    "rows": "from limit", "advance": "at", "finish": "at",
+    "txn": "at insert update delete set null true false",
+    "prepare": "by insert update delete set null true false",
+    "query": "at select from where key and between null true false",
+    "explain": "query plan select from where",
+    "plan": "add drop abandon index column on default int text bool",
+    "publish": "at add move turn to index column on default int text bool absent delete_only write_only public",
+    "table": "int text bool key",
+    "work": "at limit",
+    "piece": "of limit",
+    "reorganise": "at pieces",
+    "forge": "version granted until",
+    "rows": "from limit",
+    **dict.fromkeys(("lease", "next", "commit", "advance", "finish"), "at"),
+    "index": "on",
 }
 DELIMITERS = " \t(),;:="
 

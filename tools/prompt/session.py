@@ -7,7 +7,7 @@ import os
 import re
 import signal
 import sys
-from typing import Any, Dict, Iterator, List
+from typing import Any, Dict, Iterable, Iterator, List, Optional, Tuple
 
 from program import Program
 from texts import goes_on, joined, schema_lines, shown
@@ -161,9 +161,10 @@ class Session:
             self.is_over = False  # `quit` ends the files that are read, and not this prompt
 
 
-def lines_of(rows: Any) -> Iterator[Any]:
+def lines_of(rows: Iterable[str]) -> Iterator[Tuple[int, str]]:
     """The lines of rows, each with the number of its first row, of which one may go on after a backslash."""
-    line, first = None, 0
+    line: Optional[str] = None
+    first = 0
     for number, row in enumerate(rows, 1):
         row = row[:-1] if row.endswith("\n") else row
         row = row[:-1] if row.endswith("\r") else row

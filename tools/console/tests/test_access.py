@@ -168,6 +168,11 @@ class Access(Browser):
         self.page.execute_script("send(['lease a at 12'])")
         self.settle(8)
         self.assertEqual("open", self.focused())
+        # back from the state after an earlier line
+        self.one("#lines .line").send_keys(Keys.ENTER)
+        self.one("#now").send_keys(Keys.ENTER)
+        self.until("return document.getElementById('past').hidden")
+        self.assertEqual("lease a at 12", self.focused())
         # Step, up to the end of the example and after it
         self.page.execute_script("unsaved = 0")
         self.example("add_an_index", "open")

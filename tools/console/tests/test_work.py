@@ -76,6 +76,23 @@ class Work(Browser):
         self.until("return document.getElementById('audit').textContent.startsWith('100 rows')")
         self.assertEqual("104", self.one("#past b").text)
 
+    def test_many_changes_and_leases_run(self) -> None:
+        lines, at = ["table t (id int key)", "open"], 0
+        for n in range(600):
+            moves = f"publish at {at + 30}: add column c{n} int on t", f"publish at {at + 60}: move t.c{n} to public", f"publish at {at + 90}: move t.c{n} to delete_only"
+            lines += [*moves, f"lease s{n % 200} at {at + 100}", f"reorganise t.c{n} at {at + 130} pieces 1", f"work t.c{n} at {at + 130} limit 1", f"publish at {at + 130}: move t.c{n} to absent"]
+            at += 130
+        begun = time.monotonic()
+        self.paste("\n".join(lines))
+        self.settle(len(lines))
+        print(f"{len(lines)} lines with 2,400 versions: {time.monotonic() - begun:.1f} s", file=sys.stderr)
+        self.assertEqual([], self.texts("#lines .reply.no") + self.texts("#lines .reply.bad"))
+        self.assertEqual((50, ["1150 changes that ended before these are not shown."]), (len(self.all("#jobs tbody tr")), self.texts("#jobs .empty")))
+        self.assertEqual(["drop column t.c599", "dropped", "0 of 0", str(at - 40), str(at), "", ""], self.texts("#jobs tbody tr:first-child > *"))
+        begun = time.monotonic()
+        self.send("status")
+        self.assertLess(time.monotonic() - begun, 3)
+
     def test_many_lines_are_stopped(self) -> None:
         lines = [*WORLD, *inserts(4996)]
         self.paste("\n".join(lines))
@@ -196,6 +213,7 @@ class Work(Browser):
         self.one("[data-focus='back 2']").click()
         self.settle(before + 2)
         self.assertEqual(["plan: abandon people.by_town", "next at 30"], self.lines()[-2:])
+        self.assertEqual("jobs", self.page.execute_script("return document.activeElement.id"), "the button is gone, and its table has the focus")
         self.assertEqual(["ok version 4"], self.texts("#lines li.sent:last-of-type .reply"))
         self.assertEqual(["add index people.by_town", "write-only being taken back", "", "10", "", "its next state may be published at 40", ""], row(2))
         self.send("finish at 40")

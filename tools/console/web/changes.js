@@ -59,5 +59,6 @@ function drawJob(state, job, isNewest) {
 /** The table of changes, the last one first. */
 function drawJobs(state, isNewest) {
   const heads = ["Change", "State", "Done of all", "Begun", "Ended", "Waits for", ""].map((text) => (text ? make("th", { scope: "col" }, text) : make("td", {})));
-  return make("table", {}, make("thead", {}, make("tr", {}, heads)), make("tbody", {}, state.jobs.map((job) => drawJob(state, job, isNewest))));
+  const table = make("table", {}, make("thead", {}, make("tr", {}, heads)), make("tbody", {}, state.jobs.map((job) => drawJob(state, job, isNewest))));
+  return [table, state.jobs_left ? make("p", { class: "empty" }, `${plural(state.jobs_left, "change")} that ended before these are not shown.`) : ""].filter(Boolean);
 }

@@ -35,9 +35,9 @@ function fault(text) {
   $("fault").hidden = !text;
 }
 
-/** Draws what is in an element anew, and gives the focus back to what had it: what has the same name of `data-focus`. */
+/** Draws what is in an element anew, and gives the focus back to what had it: what has the same name of `data-focus`; if that is gone, the element. */
 function redraw(element, ...inside) {
   const had = element.contains(document.activeElement) && document.activeElement.dataset.focus;
   element.replaceChildren(...inside.flat());
-  if (had) element.querySelector(`[data-focus="${CSS.escape(had)}"]`)?.focus({ preventScroll: true });
+  if (had) (element.querySelector(`[data-focus="${CSS.escape(had)}"]`) || element).focus({ preventScroll: true });
 }

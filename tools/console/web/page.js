@@ -56,7 +56,11 @@ function useButtons() {
   $("save").onclick = save;
   $("again").onclick = startAnew;
   $("example").onchange = startAnew;
-  $("now").onclick = () => choose(newestAt());
+  $("now").onclick = async () => {
+    await choose(newestAt());
+    stopAt(items[chosen]);
+    items[chosen].firstElementChild.focus({ preventScroll: true });
+  };
   $("stop").onclick = () => { isStopped = true; };
   $("lines").onkeydown = goInLines;
 }

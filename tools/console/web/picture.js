@@ -5,11 +5,18 @@ const HEAD = 30, LANE = 27;
 const DOT = 7, MOST_LANES = 30;
 const ruler = document.createElement("canvas").getContext("2d");
 
+const widths = new Map();
+
 /** How wide a text of the picture is. */
 function widthOf(text, kind = "") {
-  const mono = getComputedStyle(document.documentElement).getPropertyValue("--mono");
-  ruler.font = `${kind === "bold" ? "600 " : ""}11.5px ${kind === "mono" ? mono : 'system-ui, "DejaVu Sans", sans-serif'}`;
-  return ruler.measureText(text).width;
+  const name = `${kind} ${text}`;
+  if (!widths.has(name)) {
+    if (widths.size > 10000) widths.clear();
+    const mono = getComputedStyle(document.documentElement).getPropertyValue("--mono");
+    ruler.font = `${kind === "bold" ? "600 " : ""}11.5px ${kind === "mono" ? mono : 'system-ui, "DejaVu Sans", sans-serif'}`;
+    widths.set(name, ruler.measureText(text).width);
+  }
+  return widths.get(name);
 }
 
 /** The first of some texts that fits into so much room, or none. */
@@ -45,7 +52,8 @@ function scale(moments, length, from, to) {
 /** The elements that change at some time; the first six if none does. */
 function changing(state) {
   const numbers = Object.keys(state.names).map(Number);
-  const found = numbers.filter((n) => new Set(state.versions.map((v) => JSON.stringify(v.states[n] || null))).size > 1);
+  const first = state.versions[0]?.states || {}, isSame = (a, b) => a?.state === b?.state && a?.way === b?.way;
+  const found = numbers.filter((n) => state.versions.some((version) => !isSame(first[n], version.states[n])));
   return found.length ? found : numbers.slice(0, 6);
 }
 

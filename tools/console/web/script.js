@@ -35,6 +35,10 @@ function nextPart(lines, from) {
   let at = from, characters = 0;
   while (at < lines.length && part.length < MOST_LINES) {
     characters += lines[at].length;
+    if (lines[at].length > MOST_CHARACTERS) {
+      if (part.length) break;
+      throw new Error("No line of the language has more than 65,536 bytes, and this one is too long to be sent.");
+    }
     if (isLine(lines[at]) && part.length && characters > MOST_CHARACTERS) break;
     if (isLine(lines[at])) part.push(lines[at]);
     at++;

@@ -5,9 +5,9 @@ const CASE = { absent: "does not know it", delete_only: "removes its pairs, but 
 /** A state with the versions, leases and writes that there were then. */
 function seenThen(state) {
   const then = Object.fromEntries(Object.keys(past).map((name) => [name, past[name].slice(0, state.counts[name])]));
-  const isOf = (it, held) => ["server", "version", "from", "until"].every((part) => it[part] === held[part]);
+  const keyOf = (it) => [it.server, it.version, it.from, it.until].join(" "), heldThen = new Map(state.held.map((it) => [keyOf(it), it]));
   const leases = then.leases.map((it) => {
-    const held = state.held.find((other) => isOf(it, other));
+    const held = heldThen.get(keyOf(it));
     return { ...it, in_force: Boolean(held?.in_force), standing: held?.standing || "no longer held", held: Boolean(held) };
   });
   return { ...state, ...then, leases };
