@@ -151,9 +151,10 @@ class Session:
 
     def _last(self, line: str) -> Tuple[Dict[str, Any], Dict[str, Any], Dict[str, Any]]:
         """Sends a line: its answer, the state after it without its lists, and what it changed on the pages of rows."""
-        refusal = refusal_of(line)
-        said = refusal or self._prompt.ask(line)[0]
+        heard = {} if refusal_of(line) else dict(zip(asked := questions_of(line), self._prompt.ask(*asked)))
+        said = refusal_of(line) or heard.pop(line)
         answer, before, facts = self._answer(line, said), self._pages, said.get("changes")
+        self._keep({question: it["facts"] for question, it in heard.items() if "facts" in it})
         # an answer in a world of many rows has `changes` null: what goes over all pairs is not asked there
         state = self._state("changes" in said and facts is None)
         changed = {name: pages.changes_by_row(facts, name, before[name], page) if facts else pages.changes(before[name], page)

@@ -68,7 +68,8 @@ class Browser(unittest.TestCase):
 
     def leave(self) -> None:
         """Leaves the page, whatever is lost."""
-        self.page.execute_script("unsaved = 0; busy = false; if (document.getElementById('line')) document.getElementById('line').value = ''") if self.page.current_url.startswith("http") else None
+        if self.page.execute_script("return Boolean(document.getElementById('ask'))"):
+            self.page.execute_script("unsaved = 0; busy = false; document.getElementById('line').value = ''")
         self.page.get("about:blank")
 
     def until(self, script: str, seconds: float = 60) -> None:

@@ -200,6 +200,14 @@ class Batches(unittest.TestCase):
                         self.assertIn(other, (one, {**one, **unseen}))
                     self.assertEqual(known, {name: it for name, it in state.items() if name not in (*LISTS, "jobs")})
 
+    def test_what_a_cut_forgets_is_kept(self) -> None:
+        lines = ["table t (id int key)", "open", "lease a at 0", "plan: add column n int on t", "next at 10", "lease a at 12", "next at 20", "cut", "plan: drop column n on t", "next at 30", "cut"]
+        alone = [self.one.line(line) for line in lines][-1]["state"]
+        _, state, lists = self.all_of(lines, 100)
+        self.assertEqual((alone["versions"], alone["leases"]), (lists["versions"], lists["leases"]))
+        self.assertEqual([["t.n delete_only"], ["t.n public"], ["t.n delete_only"]], [it["moves"] for it in lists["versions"][1:]])
+        self.assertEqual([(False, "t.n", 30), (True, "t.n", 10)], [(it["adds"], it["name"], it["begun"]) for it in state["jobs"]])
+
     def test_only_what_is_new_is_sent(self) -> None:
         self.many.lines(["table t (id int key)", "table u (id int key)", "open", "lease a at 0", "txn a: insert t (1)"], 0)
         news = self.many.lines(["txn a: insert u (1)"], 5)
