@@ -81,17 +81,17 @@ class Work(Browser):
 
     def test_many_changes_and_leases_run(self) -> None:
         lines, at = ["table t (id int key)", "open"], 0
-        for n in range(600):
+        for n in range(300):
             moves = f"publish at {at + 30}: add column c{n} int on t", f"publish at {at + 60}: move t.c{n} to public", f"publish at {at + 90}: move t.c{n} to delete_only"
             lines += [*moves, f"lease s{n % 200} at {at + 100}", f"reorganise t.c{n} at {at + 130} pieces 1", f"work t.c{n} at {at + 130} limit 1", f"publish at {at + 130}: move t.c{n} to absent"]
             at += 130
         begun = time.monotonic()
         self.paste("\n".join(lines))
         self.settle(len(lines), 120)
-        print(f"{len(lines)} lines with 2,400 versions: {time.monotonic() - begun:.1f} s", file=sys.stderr)
+        print(f"{len(lines)} lines with 1,200 versions: {time.monotonic() - begun:.1f} s", file=sys.stderr)
         self.assertEqual([], self.texts("#lines .reply.no") + self.texts("#lines .reply.bad"))
-        self.assertEqual((50, ["1150 changes that ended before these are not shown."]), (len(self.all("#jobs tbody tr")), self.texts("#jobs .empty")))
-        self.assertEqual(["drop column t.c599", "dropped", "0 of 0", str(at - 40), str(at), "", ""], self.texts("#jobs tbody tr:first-child > *"))
+        self.assertEqual((50, ["550 changes that ended before these are not shown."]), (len(self.all("#jobs tbody tr")), self.texts("#jobs .empty")))
+        self.assertEqual(["drop column t.c299", "dropped", "0 of 0", str(at - 40), str(at), "", ""], self.texts("#jobs tbody tr:first-child > *"))
         begun = time.monotonic()
         self.send("status")
         self.assertLess(time.monotonic() - begun, 15)
