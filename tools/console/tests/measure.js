@@ -109,3 +109,10 @@ function buttonWords(button) {
   probe.remove();
   return words;
 }
+
+/** The texts of a picture that lie on each other. */
+function overlaps(svg) {
+  const texts = [...svg.querySelectorAll("text")].filter((it) => it.textContent).map((it) => [it, it.getBBox()]);
+  const isOver = (a, b) => a.x + 1 < b.x + b.width && b.x + 1 < a.x + a.width && a.y + 4 < b.y + b.height && b.y + 4 < a.y + a.height;
+  return texts.flatMap(([it, box], k) => texts.slice(k + 1).filter(([, other]) => isOver(box, other)).map(([other]) => `${it.textContent} on ${other.textContent}`));
+}

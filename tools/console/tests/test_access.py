@@ -40,7 +40,7 @@ class Access(Browser):
                 self.open(width, 800)
                 self.paste("\n".join(lines))
                 self.settle(len(lines))
-                self.assertEqual([], self.outside())
+                self.assertEqual(([], []), (self.outside(), self.measure("overlaps(document.querySelector('#picture svg'))")))
                 titles = self.page.execute_script("return [...document.querySelectorAll('#picture title')].map(it => it.textContent)")
                 more = [int(found[1]) for it in titles if (found := re.search(r"; (\d+) more", it))]
                 dots = len(self.all("#picture circle.write")) + len(self.all("#picture path.refused"))
@@ -56,7 +56,7 @@ class Access(Browser):
                 self.open(width, 800)
                 self.send("table t (id int key)", "table u (id int key, " + ", ".join(f"{it[:28]}{k:02} int" for k, it in enumerate(columns)) + ")", "open",
                           f"lease {'W' * 32} at 3", f"plan: {adds}", "next at 10", "next at 20", f"lease {'W' * 32} at 25", "lease b at 29")
-                self.assertEqual([], self.outside())
+                self.assertEqual(([], []), (self.outside(), self.measure("overlaps(document.querySelector('#picture svg'))")))
                 self.assertEqual(20, len(self.all("#picture rect.public")), "each column of the step is public in version 3")
 
     def test_far_moments_and_many_versions_stay_within_their_axis(self) -> None:

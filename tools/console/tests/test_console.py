@@ -15,10 +15,11 @@ ROOT = HERE.parent.parent
 sys.path.insert(0, str(HERE))
 
 import pages  # noqa: E402
+import prompt  # noqa: E402
 import session  # noqa: E402
 from history import LISTS  # noqa: E402
 from load_run import LoadRun, words_of  # noqa: E402
-from prompt import PromptGone  # noqa: E402
+from prompt import Prompt, PromptGone  # noqa: E402
 from session import Session  # noqa: E402
 
 SHELL = os.environ.get("CAGZHOMUL_SHELL") or str(ROOT / "crates/shell/out/shell")
@@ -159,6 +160,22 @@ class Sessions(unittest.TestCase):
             self.session.line("help")
         with self.assertRaises(PromptGone):
             Session("/no/such/program")
+
+
+class Programs(unittest.TestCase):
+    def test_a_program_that_does_not_answer_is_ended(self) -> None:
+        self.addCleanup(setattr, prompt, "PATIENCE", prompt.PATIENCE)
+        prompt.PATIENCE = 0.3
+        with tempfile.TemporaryDirectory() as folder:
+            silent = pathlib.Path(folder, "silent")
+            silent.write_text("#!/bin/sh\nexec sleep 60\n")
+            silent.chmod(0o755)
+            for line in ("help", "x" * 1_000_000):  # the second is more than the pipe holds
+                run = Prompt(str(silent))
+                self.addCleanup(run.close)
+                with self.assertRaises(PromptGone):
+                    run.ask(line)
+                self.assertEqual(-9, run._run.wait(10))
 
 
 class Batches(unittest.TestCase):

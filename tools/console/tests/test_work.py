@@ -68,6 +68,8 @@ class Work(Browser):
         self.assertLess(took, 60, "514 lines once took 240 seconds")
         print(f"5,000 lines: {took:.1f} s", file=sys.stderr)
         self.assertFalse(self.one("#sending").is_displayed())
+        last = "const it = document.querySelector('#lines li.sent:last-of-type').getBoundingClientRect(), list = document.getElementById('lines').getBoundingClientRect();"
+        self.until(last + "return it.bottom <= list.bottom + 1 && it.top >= list.top", 5)
         self.assertEqual("4996 rows; pairs: 0 missing, 0 extra", self.one("#audit").text)
         self.assertEqual(("", lines[-1]), (self.one("#line").get_attribute("value"), self.lines()[-1]))
         # one more is as quick as the first ones
@@ -168,6 +170,18 @@ class Work(Browser):
         self.one("#line").clear()
         self.is_said("help", "has ended")
         self.assertEqual(["table t (id int key)"], self.lines())
+        self.leave()
+
+    def test_a_server_that_ended_in_a_load_is_said(self) -> None:
+        server = self.own_server()
+        self.one("#tab-load").click()
+        self.one("#start").click()
+        self.until("return document.getElementById('start').textContent === 'Stop'")
+        server.kill()
+        server.wait()
+        self.until("return document.getElementById('start').textContent === 'Start'")
+        self.assertIn("has ended", self.one("#stage").text)
+        self.page.get_log("browser")
         self.leave()
 
     def test_a_program_that_ended_is_said(self) -> None:

@@ -118,10 +118,10 @@ function goInLines(event) {
   reveal($("lines"), item);
 }
 
-/** Scrolls a list, and nothing around it, so that an item is in it. */
+/** Scrolls a list, and nothing around it, so that an item is in it: smoothly, unless it is far. */
 function reveal(list, item) {
   if (!item) return;
-  const top = item.offsetTop, below = top + item.offsetHeight;
-  if (below > list.scrollTop + list.clientHeight) list.scrollTop = below - list.clientHeight + 6;
-  else if (top < list.scrollTop) list.scrollTop = top - 6;
+  const { scrollTop, clientHeight } = list, below = item.offsetTop + item.offsetHeight;
+  const top = below > scrollTop + clientHeight ? below - clientHeight + 6 : item.offsetTop < scrollTop ? item.offsetTop - 6 : scrollTop;
+  if (top !== scrollTop) list.scrollTo({ top, behavior: Math.abs(top - scrollTop) > clientHeight ? "instant" : "auto" });
 }

@@ -180,12 +180,12 @@ function listen() {
   $("start").textContent = "Stop";
   source = new EventSource(`api/load/${load}/events`);
   source.onmessage = (message) => heard(JSON.parse(message.data));
-  const over = () => {
+  const over = (why) => {
     source?.close();
     source = null;
     $("start").textContent = "Start";
-    if (!run.audit && !run.fault) stage("Stopped.");
+    if (!run.audit && !run.fault) stage(why);
   };
-  source.addEventListener("over", over);
-  source.onerror = over;
+  source.addEventListener("over", () => over("Stopped."));
+  source.onerror = () => over(ENDED);
 }

@@ -2,7 +2,7 @@
 const $ = (id) => document.getElementById(id);
 const WORDS = { absent: "absent", delete_only: "delete-only", write_only: "write-only", public: "public" };
 const SVG = /^(svg|g|rect|line|path|circle|text|title|defs|pattern)$/;
-const ENDED = "The console's server does not answer: it has ended, or this computer was asleep. Start it again (python3 tools/console) and open the address that it writes. What you typed is still here, and Save writes the lines that were sent.";
+const ENDED = "The console's server has ended, or cannot be reached. Start it again (python3 tools/console) and open the address that it writes. What you typed is still here, and Save writes the lines that were sent.";
 const STRANGE = "Another console was started in the place of this page's: open the address that it wrote. What you typed is still here, and Save writes the lines that were sent.";
 
 const plural = (n, word) => `${n} ${word}${n === 1 ? "" : "s"}`;

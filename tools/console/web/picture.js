@@ -168,7 +168,9 @@ function drawWrites(pic, server, y, { dots, more, after }) {
 function drawServer(pic, server, y) {
   const drawn = groupsOf(pic, server).map((group) => dotsOf(pic, group));
   put(pic, 0, y + 17, cut(`server ${server}`, pic.gutter - 6), "soft");
-  drawLeases(pic, server, y, drawn.flatMap(({ dots, after }) => [...dots.map((dot) => dot.x), ...(after === null ? [] : [after + 6, after + 16])]));
+  // a number of writes takes as much room as dots would
+  const places = ({ dots, more, after }) => [...dots.map((dot) => dot.x), ...(after === null ? [] : [...`+${more}`].map((_, k) => after + 3 + k * DOT))];
+  drawLeases(pic, server, y, drawn.flatMap(places));
   for (const it of drawn) drawWrites(pic, server, y, it);
 }
 
