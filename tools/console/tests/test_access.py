@@ -48,6 +48,13 @@ class Access(Browser):
                 self.assertLessEqual({it for it in self.texts("#picture svg text") if it.startswith("+")}, {f"+{it}" for it in more})
                 self.assertEqual(1, len(self.all("#picture .last")), "the last line's is drawn")
 
+    def test_a_count_of_writes_lies_on_no_label(self) -> None:
+        lines = ["table t (id int key)", "open", "lease a at 0", *(f"txn a at 1: insert t ({n})" for n in range(933))]
+        self.paste("\n".join(lines))
+        self.settle(len(lines))
+        self.assertEqual(([], []), (self.outside(), self.measure("overlaps(document.querySelector('#picture svg'))")))
+        self.assertEqual(1, len([it for it in self.texts("#picture svg text") if it.startswith("+")]))
+
     def test_wide_steps_stay_within_their_axis(self) -> None:
         columns = [f"a_column_with_quite_a_long_name_{n}"[:32] for n in range(16)]
         adds = "; ".join(f"add column {'w' * 27}{n:05} int on t" for n in range(20))
