@@ -2,14 +2,16 @@
 
 from __future__ import annotations
 
+import hmac
 import json
 import pathlib
 import re
 import secrets
+import sys
 import threading
 import time
 from http.server import BaseHTTPRequestHandler, ThreadingHTTPServer
-from typing import Any, Callable, Dict, List, Optional
+from typing import Any, Callable, Dict, FrozenSet, List, Optional
 
 from load_run import LoadRun
 from prompt import PromptGone
@@ -17,10 +19,11 @@ from session import Session
 
 WEB = pathlib.Path(__file__).resolve().parent / "web"
 TYPES = {".html": "text/html; charset=utf-8", ".css": "text/css; charset=utf-8", ".js": "text/javascript; charset=utf-8", ".svg": "image/svg+xml"}
-MOST_SESSIONS, MOST_BODY = 16, 1 << 20
+MOST_SESSIONS, MOST_BODY, MOST_LINES = 16, 1 << 20, 1000
 IDLE = 600  # seconds without a line after which a session is ended
 POLICY = "default-src 'none'; script-src 'self'; style-src 'self'; img-src 'self'; connect-src 'self'; base-uri 'none'; form-action 'none'; frame-ancestors 'none'"
 OVER = "this session is over: Start again begins a new one"
+NO_SECRET = b"The address lacks the secret of this console: open the one that it wrote when it was started.\n"
 
 
 class Gone(Exception):
@@ -55,9 +58,13 @@ class Console:
         for it in over:
             it.close()
 
-    def line(self, name: str, line: str) -> Dict[str, Any]:
-        """What a line in a session is answered, with the state after it."""
-        return self._ask(name, lambda session: session.line(line))
+    def lines(self, name: str, lines: List[str], has: int) -> Dict[str, Any]:
+        """What lines in a session are answered, or the first of them if all take long, with what is new in the state after the last."""
+        return self._ask(name, lambda session: session.lines(lines, has))
+
+    def state(self, name: str, number: int) -> Dict[str, Any]:
+        """The state after an earlier line of a session."""
+        return self._ask(name, lambda session: session.state_after(number))
 
     def page(self, name: str, table: str, start: Optional[List[str]]) -> Dict[str, Any]:
         """A page of a table's rows in a session."""
@@ -114,23 +121,32 @@ class Console:
 
 
 class Handler(BaseHTTPRequestHandler):
-    """One request. The server's `console` and `hosts` are set before it is served."""
+    """One request. The server's `console`, `hosts` and `secret` are set before it is served: each path begins with the secret, which the address
+    has that the console writes for its user, so no other user of the computer can call it."""
 
     protocol_version = "HTTP/1.1"
     timeout = 60
     console: Console
-    hosts: frozenset
+    hosts: FrozenSet[str]
+    secret: str
 
     def log_message(self, *_: Any) -> None:
         pass
 
     def _is_own(self) -> bool:
-        """Whether it comes from this page: another site's page may neither call this server nor reach it by a name of its own."""
-        origin = self.headers.get("Origin")
-        if self.headers.get("Host", "") in self.hosts and (origin is None or origin in {f"http://{it}" for it in self.hosts}):
+        """Whether it comes from this page, of the user who started this server: another site's page may neither call it nor reach it by a name
+        of its own, and who does not know the secret is told nothing. What is left of the path then has no secret."""
+        origin, site = self.headers.get("Origin"), self.headers.get("Sec-Fetch-Site", "none")
+        secret, _, rest = self.path[1:].partition("/")
+        if self.headers.get("Host", "") not in self.hosts or site not in ("none", "same-origin") or origin not in {None, *(f"http://{it}" for it in self.hosts)}:
+            why = b"forbidden"
+        elif not hmac.compare_digest(secret.encode(), self.secret.encode()):
+            why = NO_SECRET
+        else:
+            self.path = f"/{rest}"
             return True
         self.close_connection = True
-        self._send(403, b"forbidden", "text/plain")
+        self._send(403, why, "text/plain")
         return False
 
     def _send(self, status: int, body: bytes, kind: str) -> None:
@@ -193,11 +209,10 @@ class Handler(BaseHTTPRequestHandler):
         console = self.console
         if self.path == "/api/session":
             return {"session": console.begin()}
-        if found := re.fullmatch(r"/api/session/(\w+)/line", self.path):
-            line = asked.get("line")
-            if not isinstance(line, str) or any(it in line for it in "\n\r\0"):
-                raise ValueError("one line at a time")
-            return console.line(found[1], line)
+        if found := re.fullmatch(r"/api/session/(\w+)/lines", self.path):
+            return console.lines(found[1], lines_of(asked.get("lines")), int(asked.get("has", 0)))
+        if found := re.fullmatch(r"/api/session/(\w+)/state", self.path):
+            return console.state(found[1], int(asked.get("number", 0)))
         if found := re.fullmatch(r"/api/session/(\w+)/page", self.path):
             return console.page(found[1], str(asked.get("table")), key_of(asked.get("from")))
         if found := re.fullmatch(r"/api/session/(\w+)/end", self.path):
@@ -241,6 +256,17 @@ class Handler(BaseHTTPRequestHandler):
             pass
 
 
+def lines_of(asked: Any) -> List[str]:
+    """Lines that were sent, of which none has another in it."""
+    if not isinstance(asked, list) or not 1 <= len(asked) <= MOST_LINES:
+        raise ValueError(f"1 to {MOST_LINES} lines are expected")
+    if not all(isinstance(it, str) and not any(end in it for end in "\n\r\0") for it in asked):
+        raise ValueError("a line is a text without an end of a line in it")
+    for it in asked:
+        it.encode()  # refused, as a ValueError, if half a character is in it
+    return asked
+
+
 def key_of(asked: Any) -> Optional[List[str]]:
     """A key that was sent: values in the language, of which none ends its text or the line early."""
     if asked is None:
@@ -251,15 +277,30 @@ def key_of(asked: Any) -> Optional[List[str]]:
     return asked
 
 
+class Server(ThreadingHTTPServer):
+    """A server that says nothing of a page that went away while it was answered."""
+
+    daemon_threads = True
+
+    def handle_error(self, request: Any, client_address: Any) -> None:
+        if not isinstance(sys.exc_info()[1], ConnectionError):
+            super().handle_error(request, client_address)
+
+
 def make_server(port: int, program: str, root: pathlib.Path, idle: float = IDLE) -> ThreadingHTTPServer:
     """A server on 127.0.0.1 that is not serving yet, with a console of its own."""
     handler = type("OwnHandler", (Handler,), {})
-    server = ThreadingHTTPServer(("127.0.0.1", port), handler)
-    server.daemon_threads = True
+    server = Server(("127.0.0.1", port), handler)
     port = server.server_address[1]
     handler.console = Console(program, root, idle)  # type: ignore[attr-defined]
     handler.hosts = frozenset({f"127.0.0.1:{port}", f"localhost:{port}"})  # type: ignore[attr-defined]
+    handler.secret = secrets.token_urlsafe(24)  # type: ignore[attr-defined]
     return server
+
+
+def address_of(server: ThreadingHTTPServer) -> str:
+    """The address of its page, with the secret in it."""
+    return f"http://127.0.0.1:{server.server_address[1]}/{server.RequestHandlerClass.secret}/"  # type: ignore[attr-defined]
 
 
 def _end_idle_sessions(console: Console) -> None:
@@ -273,7 +314,7 @@ def serve(port: int, program: str, root: pathlib.Path) -> None:
     server = make_server(port, program, root)
     console: Console = server.RequestHandlerClass.console  # type: ignore[attr-defined]
     threading.Thread(target=_end_idle_sessions, args=(console,), daemon=True).start()
-    print(f"http://127.0.0.1:{server.server_address[1]}/", flush=True)
+    print(address_of(server), flush=True)
     try:
         server.serve_forever()
     except KeyboardInterrupt:

@@ -1,26 +1,13 @@
-"""The console in headless Chromium: each example is stepped through, in wide and narrow pages, light and dark. It takes Debian's chromium,
-chromium-driver and python3-selenium, and the shell program as test_console.py does. With CONSOLE_PICTURES=FOLDER it leaves pictures there."""
+"""The console in headless Chromium: each example is stepped through, in wide and narrow pages, light and dark."""
 
 from __future__ import annotations
 
-import os
-import pathlib
-import shutil
-import subprocess
 import sys
-import time
 import unittest
-from typing import List
 
-from selenium import webdriver
-from selenium.webdriver.chrome.options import Options
-from selenium.webdriver.chrome.service import Service
-from selenium.webdriver.common.by import By
+from browser import EXAMPLES, ROOT, Browser
 from selenium.webdriver.common.keys import Keys
-from selenium.webdriver.support.ui import Select, WebDriverWait
 
-HERE = pathlib.Path(__file__).resolve().parent.parent
-ROOT = HERE.parent.parent
 sys.path.insert(0, str(ROOT / "bindings/python"))
 
 import cagzhomul  # noqa: E402
@@ -28,93 +15,8 @@ import cagzhomul.console  # noqa: E402
 from cagzhomul_layer import layer  # noqa: E402
 from cagzhomul_layer.memory import MemoryStore  # noqa: E402
 
-EXAMPLES = sorted((ROOT / "examples").glob("*.script"))
-PICTURES = os.environ.get("CONSOLE_PICTURES")
-# the texts that elements show; a picture's have no innerText, and the title among them is not shown
-TEXTS = """return [...document.querySelectorAll(arguments[0])].map(it => it.innerText
-    ?? [...it.childNodes].filter(part => part.nodeName !== 'title').map(part => part.textContent).join('')).map(it => it.trim())"""
 
-
-class Browser(unittest.TestCase):
-    @classmethod
-    def setUpClass(cls) -> None:
-        cls.server = subprocess.Popen([sys.executable, str(HERE), "--port", "0"], stdout=subprocess.PIPE, text=True)
-        cls.addClassCleanup(cls.end_server)
-        cls.at = cls.server.stdout.readline().strip()
-        options = Options()
-        for word in ("--headless=new", "--no-sandbox", "--disable-dev-shm-usage", "--hide-scrollbars", "--window-size=1280,800"):
-            options.add_argument(word)
-        options.binary_location = shutil.which("chromium") or ""
-        options.set_capability("goog:loggingPrefs", {"browser": "ALL"})
-        cls.page = webdriver.Chrome(options=options, service=Service(shutil.which("chromedriver")))
-        cls.addClassCleanup(cls.page.quit)
-
-    @classmethod
-    def end_server(cls) -> None:
-        cls.server.terminate()
-        cls.server.wait(10)
-        cls.server.stdout.close()
-
-    def setUp(self) -> None:
-        self.open(1280, 800)
-
-    def tearDown(self) -> None:
-        self.assertEqual([], [it["message"] for it in self.page.get_log("browser")], "the browser's console has no error")
-
-    def open(self, width: int, height: int, dark: bool = False) -> None:
-        """Opens the page anew, in a window of this size."""
-        self.page.execute_cdp_cmd("Emulation.setDeviceMetricsOverride", {"width": width, "height": height, "deviceScaleFactor": 1, "mobile": width < 600})
-        self.page.execute_cdp_cmd("Emulation.setEmulatedMedia", {"features": [{"name": "prefers-color-scheme", "value": "dark" if dark else "light"}]})
-        self.page.get("about:blank")
-        self.page.get(self.at)
-        self.until("return document.body.dataset.ready === 'true'")
-
-    def until(self, script: str, seconds: float = 60) -> None:
-        WebDriverWait(self.page, seconds, 0.05).until(lambda page: page.execute_script(script), script)
-
-    def one(self, selector: str):
-        return self.page.find_element(By.CSS_SELECTOR, selector)
-
-    def all(self, selector: str):
-        return self.page.find_elements(By.CSS_SELECTOR, selector)
-
-    def texts(self, selector: str) -> List[str]:
-        """Read in one script: a page that follows a store may be drawn anew between two calls, and what they found is stale then."""
-        return self.page.execute_script(TEXTS, selector)
-
-    def sent(self) -> int:
-        return int(self.page.execute_script("return document.body.dataset.sent"))
-
-    def keep(self, name: str) -> None:
-        """Leaves a picture, once what has just changed has faded."""
-        if PICTURES:
-            time.sleep(1.4)
-            self.page.save_screenshot(str(pathlib.Path(PICTURES, f"{name}.png")))
-
-    def step(self) -> None:
-        before = self.sent()
-        self.one("#step").click()
-        self.until(f"return document.body.dataset.busy === 'false' && +document.body.dataset.sent > {before}")
-
-    def example(self, name: str, last: str = "") -> None:
-        """Chooses an example and steps up to the line that begins so; or runs all of it."""
-        Select(self.one("#example")).select_by_value(name)
-        if not last:
-            self.one("#all").click()
-            self.until("return document.body.dataset.busy === 'false' && document.getElementById('step').disabled && +document.body.dataset.sent > 0")
-            return
-        for _ in range(80):
-            self.step()
-            if self.texts("#lines li.sent .line")[-1].startswith(last):
-                return
-        self.fail(last)
-
-    def send(self, *lines: str) -> None:
-        for line in lines:
-            before = self.sent()
-            self.one("#line").send_keys(line, Keys.ENTER)
-            self.until(f"return document.body.dataset.busy === 'false' && +document.body.dataset.sent > {before}")
-
+class Page(Browser):
     def test_each_example_is_stepped_through(self) -> None:
         for path in EXAMPLES:
             with self.subTest(path.stem):
@@ -149,7 +51,7 @@ class Browser(unittest.TestCase):
     def test_a_lease_that_has_ended_holds_no_version(self) -> None:
         self.example("drop_an_index", "lease a at 20")
         self.assertEqual("Version 2: no lease is in force. Version 3: used by a until 30.", self.one(".used").text)
-        self.assertEqual("its clear may begin at 30", self.one("#progress span").text.split(": ")[1])
+        self.assertEqual(["delete-only being dropped", "", "10", "", "its clear may begin at 30", ""], self.texts("#jobs tbody td"))
 
     def test_mistakes_are_marked(self) -> None:
         self.send("table people (id int key, town text)", "open", "lease a at 5", "txn a: insert people (1) set town = 'Ü😀m'; inser people (2)", "plan: ad index i on people (town)")
@@ -160,7 +62,7 @@ class Browser(unittest.TestCase):
     def test_what_is_typed_is_text(self) -> None:
         markup = "<img src=x onerror=alert(1)><script>alert(2)</script>"
         self.send("table t (id int key, s text)", "open", "lease a at 0", f"txn a: insert t (1) set s = '{markup}'", markup, f"lease {markup} at 0")
-        self.assertEqual((1, 6), (len(self.all("img")), len(self.all("script"))))
+        self.assertEqual((1, 8), (len(self.all("img")), len(self.all("script"))))
         self.assertEqual(["1", f"'{markup}'"], self.texts("#tables tbody td"))
         self.assertEqual([markup], self.texts("#lines .line")[4:5])
 

@@ -1,25 +1,25 @@
-"""The console without a browser: its sessions, pages and server. It takes the shell program that CAGZHOMUL_SHELL names, or that of crates/shell."""
+"""The console without a browser: its sessions, pages and loads. It takes the shell program that CAGZHOMUL_SHELL names, or that of crates/shell."""
 
 from __future__ import annotations
 
-import http.client
 import json
 import os
 import pathlib
 import sys
-import threading
-import time
+import tempfile
 import unittest
-from typing import Any, Dict, List, Optional, Tuple
+from typing import Any, Dict, List, Tuple
 
 HERE = pathlib.Path(__file__).resolve().parent.parent
 ROOT = HERE.parent.parent
 sys.path.insert(0, str(HERE))
 
 import pages  # noqa: E402
-import server  # noqa: E402
+import prompt  # noqa: E402
+import session  # noqa: E402
+from history import LISTS  # noqa: E402
 from load_run import LoadRun, words_of  # noqa: E402
-from prompt import PromptGone  # noqa: E402
+from prompt import Prompt, PromptGone  # noqa: E402
 from session import Session  # noqa: E402
 
 SHELL = os.environ.get("CAGZHOMUL_SHELL") or str(ROOT / "crates/shell/out/shell")
@@ -110,8 +110,8 @@ class Sessions(unittest.TestCase):
                                 {"key": ["2"], "row": "put", "moves": []}]}, answer["changed"])
 
     def test_each_piece_is_known(self) -> None:
-        answer = self.run_to("take_back_an_add", "commit first at 30")
-        self.assertEqual([True, False, False], [it["ended"] for it in answer["state"]["progress"][0]["pieces"]])
+        [job] = self.run_to("take_back_an_add", "commit first at 30")["state"]["jobs"]
+        self.assertEqual(([True, False, False], 1, 3), ([it["ended"] for it in job["pieces"]], job["done"], job["all"]))
 
     def test_odd_lines_leave_the_answers_in_step(self) -> None:
         for line in ("", "   ", "help quit", " quit ", "exit", ". quit", "\\q", "help", "\u00e9", "x" * 70_000, "# a remark"):
@@ -137,12 +137,161 @@ class Sessions(unittest.TestCase):
         self.assertEqual((None, [["1"]]), (state["audit"], [it["key"] for it in state["pages"]["t"]["rows"]]))
         self.assertNotIn("check", asked)
 
+    def test_a_line_that_would_write_a_file_is_refused(self) -> None:
+        with tempfile.TemporaryDirectory() as folder:
+            target = pathlib.Path(folder, "precious")
+            target.write_text("mine")
+            self.run_lines("table t (id int key)", "open")
+            for line in (f"save {target}", f"  save {target}", f"\u00a0save {target}", f"save\u3000{target}", f"save '{target}'", "save", f".save {target}"):
+                self.assertEqual(([], [session.UNSAVED]), (lambda it: (it["reply"], it["remarks"]))(self.session.line(line)), line)
+                answers = self.session.lines([line, "status"], 0)["answers"]
+                self.assertEqual([session.UNSAVED], answers[0]["remarks"], line)
+            self.assertEqual((["precious"], "mine"), ([it.name for it in target.parent.iterdir()], target.read_text()))
+
+    def test_a_long_answer_is_sent_in_part(self) -> None:
+        inserts = ["txn a: " + "; ".join(f"insert t ({n * 50 + k})" for k in range(50)) for n in range(10)]
+        answer = self.run_lines("table t (id int key)", "open", "lease a at 0", *inserts, "pairs")
+        self.assertEqual((session.MOST_SHOWN, 501 - session.MOST_SHOWN, "ok pairs 500"), (len(answer["reply"]), answer["reply_left"], answer["reply"][-1]))
+        self.assertEqual(0, self.session.line("check")["reply_left"])
+
     def test_a_program_that_has_ended_is_said(self) -> None:
         self.session._prompt._run.kill()
         with self.assertRaises(PromptGone):
             self.session.line("help")
         with self.assertRaises(PromptGone):
             Session("/no/such/program")
+
+
+class Programs(unittest.TestCase):
+    def test_a_program_that_does_not_answer_is_ended(self) -> None:
+        self.addCleanup(setattr, prompt, "PATIENCE", prompt.PATIENCE)
+        prompt.PATIENCE = 0.3
+        with tempfile.TemporaryDirectory() as folder:
+            silent = pathlib.Path(folder, "silent")
+            silent.write_text("#!/bin/sh\nexec sleep 60\n")
+            silent.chmod(0o755)
+            for line in ("help", "x" * 1_000_000):  # the second is more than the pipe holds
+                run = Prompt(str(silent))
+                self.addCleanup(run.close)
+                with self.assertRaises(PromptGone):
+                    run.ask(line)
+                self.assertEqual(-9, run._run.wait(10))
+
+
+class Batches(unittest.TestCase):
+    """Lines that are sent together."""
+
+    def setUp(self) -> None:
+        self.one, self.many = Session(SHELL), Session(SHELL)
+        self.addCleanup(self.one.close)
+        self.addCleanup(self.many.close)
+
+    def all_of(self, lines: List[str], at_once: int) -> Tuple[List[Dict[str, Any]], Dict[str, Any], Dict[str, Any]]:
+        """The answers to lines that are sent so many at once, and what a page then has: the state, and the lists that grow."""
+        answers, has, state = [], 0, {}
+        lists: Dict[str, List[Any]] = {name: [] for name in LISTS}
+        while len(answers) < len(lines):
+            news = self.many.lines(lines[len(answers):len(answers) + at_once], has)
+            answers += news["answers"]
+            has = answers[-1]["number"]
+            state = {**state, **news["state"], "pages": {**state.get("pages", {}), **news["state"]["pages"]}}
+            for name, part in news["grown"].items():
+                lists[name] = lists[name][:news["since"][name]] + part
+        return answers, state, lists
+
+    def test_lines_sent_together_are_answered_as_those_sent_alone(self) -> None:
+        for path in EXAMPLES:
+            for at_once in (1, 3, 1000):
+                with self.subTest(f"{path.stem} {at_once}"):
+                    self.setUp()
+                    lines = lines_of(path)
+                    alone = [self.one.line(line) for line in lines]
+                    answers, state, lists = self.all_of(lines, at_once)
+                    self.assertEqual([{**it, "state": None, "changed": None} for it in alone], [{**it, "state": None, "changed": None} for it in answers])
+                    known = {name: part for name, part in alone[-1]["state"].items() if name not in LISTS}
+                    self.assertEqual(known["pages"], state["pages"])
+                    self.assertEqual([alone[-1]["state"][name] for name in LISTS], [lists[name] for name in LISTS])
+                    # of a fill that began and ended between two looks it is not known how far it came
+                    unseen = {"done": None, "all": None}
+                    for one, other in zip(known.pop("jobs"), state["jobs"]):
+                        self.assertIn(other, (one, {**one, **unseen}))
+                    self.assertEqual(known, {name: it for name, it in state.items() if name not in (*LISTS, "jobs")})
+
+    def test_what_a_cut_forgets_is_kept(self) -> None:
+        lines = ["table t (id int key)", "open", "lease a at 0", "plan: add column n int on t", "next at 10", "lease a at 12", "next at 20", "cut", "plan: drop column n on t", "next at 30", "cut"]
+        alone = [self.one.line(line) for line in lines][-1]["state"]
+        _, state, lists = self.all_of(lines, 100)
+        self.assertEqual((alone["versions"], alone["leases"]), (lists["versions"], lists["leases"]))
+        self.assertEqual([["t.n delete_only"], ["t.n public"], ["t.n delete_only"]], [it["moves"] for it in lists["versions"][1:]])
+        self.assertEqual([(False, "t.n", 30), (True, "t.n", 10)], [(it["adds"], it["name"], it["begun"]) for it in state["jobs"]])
+
+    def test_only_what_is_new_is_sent(self) -> None:
+        self.many.lines(["table t (id int key)", "table u (id int key)", "open", "lease a at 0", "txn a: insert t (1)"], 0)
+        news = self.many.lines(["txn a: insert u (1)"], 5)
+        self.assertEqual({"u"}, set(news["state"]["pages"]))
+        self.assertEqual({"pages", "log", "counts", "audit"}, set(news["state"]))
+        self.assertEqual({"versions": [], "leases": [], "writes": [{"kind": "txn", "server": "a", "at": 0, "number": 6, "ok": True, "version": 1}]}, news["grown"])
+        # a page that missed an answer is sent all of it
+        news = self.many.lines(["status"], 5)
+        self.assertEqual((0, 2, {"t", "u"}), (news["since"]["writes"], len(news["grown"]["writes"]), set(news["state"]["pages"])))
+
+    def test_many_lines_make_way_for_their_answer(self) -> None:
+        self.many.lines(["table t (id int key)", "open", "lease a at 0"], 0)
+        lines = [f"txn a: insert t ({n})" for n in range(1000)]
+        answers = self.many.lines(lines, 3, seconds=0)["answers"]
+        self.assertEqual([lines[0]], [it["line"] for it in answers], "at least one is sent")
+        answers = self.many.lines(lines[1:], 4, seconds=60)["answers"]
+        self.assertEqual((999, ["ok done 1001"]), (len(answers), answers[-1]["reply"]))
+
+    def test_long_lines_do_not_block_each_other(self) -> None:
+        long = "txn a: " + "; ".join(f"insert t ({n})" for n in range(64)) + " " * 60_000
+        answers = self.many.lines([long] * 8 + ["help"], 0, seconds=60)["answers"]
+        self.assertEqual(9, len(answers))
+
+    def test_the_state_after_an_earlier_line_is_found_again(self) -> None:
+        lines = lines_of(ROOT / "examples/take_back_an_add.script")
+        alone = [self.one.line(line) for line in lines]
+        self.many.lines(lines, 0, seconds=60)
+        for number in (1, 2, 12, 19, len(lines)):
+            found = self.many.state_after(number)
+            known = {name: part for name, part in alone[number - 1]["state"].items() if name not in (*LISTS, "jobs")}
+            self.assertEqual((known, alone[number - 1]["changed"]), ({name: it for name, it in found["state"].items() if name != "jobs"}, found["changed"]), number)
+        for number in (0, len(lines) + 1):
+            with self.assertRaises(ValueError):
+                self.many.state_after(number)
+
+
+class Jobs(unittest.TestCase):
+    def jobs(self, name: str, last: str) -> List[Tuple[Any, ...]]:
+        """The changes after the line of an example that begins so."""
+        session = Session(SHELL)
+        self.addCleanup(session.close)
+        for line in lines_of(ROOT / f"examples/{name}.script"):
+            state = session.line(line)["state"]
+            if line.startswith(last):
+                return [tuple(it[part] for part in ("adds", "kind", "name", "state", "way", "done", "all", "begun", "taken_back", "ended")) for it in state["jobs"]]
+        raise AssertionError(last)
+
+    def test_an_add_goes_from_its_begin_to_its_end(self) -> None:
+        add = (True, "index", "people.by_town")
+        self.assertEqual([], self.jobs("add_an_index", "plan"))
+        self.assertEqual([(*add, "delete_only", "adding", None, None, 10, None, None)], self.jobs("add_an_index", "next at 10"))
+        self.assertEqual([(*add, "write_only", "adding", 0, 2, 20, None, None)][0][:5], self.jobs("add_an_index", "reorganise people.by_town at 30")[0][:5])
+        # rows 1 and 3 are there when the fill begins, and both are passed at its end
+        self.assertEqual([(*add, "write_only", "adding", 2, 2, 10, None, None)], self.jobs("add_an_index", "work"))
+        self.assertEqual([(*add, "public", "", 2, 2, 10, None, 30)], self.jobs("add_an_index", "next at 30"))
+
+    def test_an_add_is_taken_back(self) -> None:
+        # it enters at 10, turns at 30, and is gone at 50; the clear of three pairs is done by then
+        [job] = self.jobs("take_back_an_add", "next at 30")
+        self.assertEqual((True, "write_only", "dropping", None, None, 10, 30, None), (job[0], *job[3:]))
+        [job] = self.jobs("take_back_an_add", "next at 50")
+        self.assertEqual((True, "absent", "dropping", 10, 30, 50), (job[0], *job[3:5], *job[7:]))
+        self.assertEqual(job[5], job[6])
+
+    def test_a_drop_is_no_add(self) -> None:
+        [job] = self.jobs("drop_an_index", "lease a at 20")
+        self.assertEqual((False, "index", None, None), (job[0], job[1], job[8], job[9]))
 
 
 class Orders(unittest.TestCase):
@@ -204,96 +353,6 @@ class Loads(unittest.TestCase):
         while load.lines_from(1 << 30) is not None:
             pass
         self.assertNotIn("fault", "".join(load.lines_from(0) or []))
-
-
-class Served(unittest.TestCase):
-    def setUp(self) -> None:
-        self.server = server.make_server(0, SHELL, ROOT)
-        self.console = self.server.RequestHandlerClass.console
-        self.port = self.server.server_address[1]
-        thread = threading.Thread(target=self.server.serve_forever, daemon=True)
-        thread.start()
-        self.addCleanup(lambda: (self.server.shutdown(), self.server.server_close(), self.console.close(), thread.join()))
-
-    def ask(self, path: str, asked: Optional[Dict[str, Any]] = None, **headers: str) -> Tuple[int, Any, http.client.HTTPResponse]:
-        connection = http.client.HTTPConnection("127.0.0.1", self.port, timeout=30)
-        self.addCleanup(connection.close)
-        sent = {"Content-Type": "application/json", **{name.replace("_", "-"): it for name, it in headers.items()}}
-        connection.request("GET" if asked is None else "POST", path, None if asked is None else json.dumps(asked), sent)
-        response = connection.getresponse()
-        body = response.read()
-        return response.status, json.loads(body) if response.headers.get_content_type() == "application/json" else body, response
-
-    def begin(self) -> str:
-        return self.ask("/api/session", {})[1]["session"]
-
-    def send(self, session: str, line: str) -> Tuple[int, Any]:
-        return self.ask(f"/api/session/{session}/line", {"line": line})[:2]
-
-    def test_other_sites_are_kept_out(self) -> None:
-        for headers in ({"Host": "evil.example"}, {"Origin": "http://evil.example"}, {"Origin": "null"}, {"Host": "127.0.0.1"}):
-            self.assertEqual(403, self.ask("/", None, **headers)[0], headers)
-            self.assertEqual(403, self.ask("/api/session", {}, **headers)[0], headers)
-        self.assertEqual(200, self.ask("/api/session", {}, Origin=f"http://localhost:{self.port}")[0])
-        self.assertEqual(400, self.ask("/api/session", {}, Content_Type="text/plain")[0])
-
-    def test_a_body_is_not_long(self) -> None:
-        for length in ("2000000", "-1", "x"):
-            self.assertEqual(400, self.ask("/api/session", {}, Content_Length=length)[0], length)
-
-    def test_only_the_page_is_served(self) -> None:
-        for path in ("/../server.py", "/%2e%2e/server.py", "/server.py", "/nothing.js", "//etc/passwd"):
-            self.assertEqual(404, self.ask(path)[0], path)
-        status, body, response = self.ask("/")
-        self.assertEqual((200, "no-store"), (status, response.headers["Cache-Control"]))
-        self.assertIn("script-src 'self'", response.headers["Content-Security-Policy"])
-        self.assertNotIn("unsafe", response.headers["Content-Security-Policy"])
-
-    def test_it_listens_on_this_computer_alone(self) -> None:
-        self.assertEqual("127.0.0.1", self.server.server_address[0])
-
-    def test_a_line_is_answered(self) -> None:
-        session = self.begin()
-        self.assertEqual((200, ["ok"]), (lambda it: (it[0], it[1]["reply"]))(self.send(session, "table t (id int key)")))
-        self.assertEqual(400, self.send(session, "open\nopen")[0])
-        self.send(session, "open")
-        self.assertEqual(200, self.ask(f"/api/session/{session}/page", {"table": "t", "from": None})[0])
-        for asked in ({"table": "u"}, {"table": "t", "from": ["1) limit 9\n"]}, {"table": "t", "from": []}, {"table": "t", "from": ["'a"]}):
-            self.assertEqual(400, self.ask(f"/api/session/{session}/page", asked)[0], asked)
-
-    def test_the_session_that_is_idle_for_longest_makes_room(self) -> None:
-        names = [self.begin() for _ in range(server.MOST_SESSIONS)]
-        self.send(names[0], "help")
-        last = self.begin()
-        self.assertEqual((404, {"fault": server.OVER}), self.send(names[1], "help"))
-        for name in (names[0], names[2], last):
-            self.assertEqual(200, self.send(name, "help")[0])
-
-    def test_a_load_is_served_line_by_line(self) -> None:
-        status, body, _ = self.ask("/api/load", {"rows": 30, "servers": 2})
-        self.assertEqual(200, status)
-        events = self.ask(f"/api/load/{body['load']}/events")[1].decode().split("\n\n")
-        self.assertEqual(["event: over\ndata: {}", ""], events[-2:])
-        lines = [it.split("\n") for it in events[:-2] if it.startswith("id: ")]
-        self.assertEqual([f"id: {it}" for it in range(len(lines))], [it[0] for it in lines])
-        self.assertEqual("audit", json.loads(lines[-1][1].removeprefix("data: "))["kind"])
-        self.assertEqual(404, self.ask("/api/load/none/events")[0])
-        self.assertEqual(400, self.ask("/api/load", {"rows": "many"})[0])
-
-    def test_an_idle_session_is_ended(self) -> None:
-        name = self.begin()
-        self.console.idle = 0.05
-        time.sleep(0.1)
-        self.console.end_idle()
-        self.assertEqual(404, self.send(name, "help")[0])
-
-    def test_a_program_that_dies_ends_its_session(self) -> None:
-        name, other = self.begin(), self.begin()
-        self.console._sessions[name]._prompt._run.kill()
-        status, body = self.send(name, "help")
-        self.assertEqual((503, f"the shell program has ended; {server.OVER}"), (status, body["fault"]))
-        self.assertEqual(404, self.send(name, "help")[0])
-        self.assertEqual(200, self.send(other, "help")[0])
 
 
 if __name__ == "__main__":

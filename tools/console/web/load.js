@@ -1,6 +1,6 @@
 "use strict";
 /* A load that goes on while the schema changes: what it says, and its charts. */
-const GUTTER = 54;
+const GUTTER = 66;
 let load = null, source = null, run = null;
 
 const time = (us) => (us < 1000 ? `${us.toFixed(0)} µs` : us < 1e6 ? `${(us / 1000).toFixed(us < 1e4 ? 1 : 0)} ms` : `${(us / 1e6).toFixed(2)} s`);
@@ -73,7 +73,7 @@ function trace(points, kind) {
 /** How many seconds a chart has: those that the rows take at their rate, or those that there are. */
 function secondsShown() {
   const asked = run?.asked, due = asked?.rate ? asked.rows / asked.rate : 0;
-  return Math.max(1, due, run?.samples.at(-1)?.at || 0) * 1.03;
+  return Math.max(1, due, run?.samples.at(-1)?.at || 0, run?.marks.at(-1)?.at || 0) * 1.03;
 }
 
 /** A chart: its seconds from left to right, and the fill behind all else. */
@@ -90,7 +90,7 @@ function chart(height, name, top) {
 
 function drawSeconds({ svg, x, end, height }) {
   const every = 10 ** Math.floor(Math.log10(end)) / (end / 10 ** Math.floor(Math.log10(end)) > 4 ? 1 : 5);
-  for (let k = 0; k * every <= end; k++) svg.append(make("text", { x: x(k * every), y: height - 4, "text-anchor": "middle", class: "faint" }, k ? `${+(k * every).toFixed(1)}` : "0 s"));
+  for (let k = 0; k * every <= end / 1.02; k++) svg.append(make("text", { x: x(k * every), y: height - 4, "text-anchor": "middle", class: "faint" }, k ? `${+(k * every).toFixed(1)}` : "0 s"));
 }
 
 /** A line across a chart, with what it stands for at its left. */
@@ -105,9 +105,10 @@ function drawMarks({ svg, x, right, height }, areNamed) {
     const at = x(mark.at);
     svg.append(make("line", { x1: at, x2: at, y1: 6, y2: height - 20, class: "mark" }));
     if (!areNamed) continue;
-    const label = `v${mark.version} ${WORDS[mark.state]}`, shown = at + label.length * 6.3 > right + 8 ? `v${mark.version}` : label, row = Math.max(0, free.findIndex((end) => end <= at));
-    svg.append(make("text", { x: at + 3, y: 10 + 13 * row, class: "soft" }, shown, make("title", {}, `moment ${mark.moment}`)));
-    free[row] = at + shown.length * 6.3 + 6;
+    const short = `v${mark.version}`, shown = fitting([`${short} ${WORDS[mark.state]}`], right + 8 - at) || short, row = Math.max(0, free.findIndex((end) => end <= at));
+    const isLeft = at + 3 + widthOf(shown) > right + 10;
+    svg.append(make("text", { x: isLeft ? at - 3 : at + 3, y: 10 + 13 * row, class: "soft", "text-anchor": isLeft ? "end" : "start" }, shown, make("title", {}, `moment ${mark.moment}`)));
+    free[row] = at + widthOf(shown) + 6;
   }
 }
 
@@ -155,17 +156,17 @@ function pointed(event) {
   tip.style.top = `${event.clientY - card.top + 14}px`;
 }
 
-/** Starts a load, or stops the one that runs. */
+/** Starts a load, or stops the one that runs. A double click does one of them. */
 async function startLoad(event) {
   event.preventDefault();
   if (source) {
-    await call(`/api/load/${load}/stop`).catch(() => 0);
+    await call(`api/load/${load}/stop`).catch(() => 0);
     return;
   }
   const form = new FormData($("load")), asked = {};
   for (const name of ["servers", "rows", "rate", "pieces", "workers", "limit"]) asked[name] = Number(form.get(name));
   try {
-    load = (await call("/api/load", asked)).load;
+    load = (await call("api/load", asked)).load;
   } catch (error) {
     fault(error.message);
     return;
@@ -177,14 +178,14 @@ async function startLoad(event) {
 
 function listen() {
   $("start").textContent = "Stop";
-  source = new EventSource(`/api/load/${load}/events`);
+  source = new EventSource(`api/load/${load}/events`);
   source.onmessage = (message) => heard(JSON.parse(message.data));
-  const over = () => {
+  const over = (why) => {
     source?.close();
     source = null;
     $("start").textContent = "Start";
-    if (!run.audit && !run.fault) stage("Stopped.");
+    if (!run.audit && !run.fault) stage(why);
   };
-  source.addEventListener("over", over);
-  source.onerror = over;
+  source.addEventListener("over", () => over("Stopped."));
+  source.onerror = () => over(ENDED);
 }

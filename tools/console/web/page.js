@@ -35,29 +35,56 @@ function useTabs() {
   };
 }
 
-function useButtons() {
-  $("theme").onclick = nextTheme;
-  $("step").onclick = step;
-  $("all").onclick = async () => { while (todo.length && await step()); };
-  $("save").onclick = save;
-  $("again").onclick = () => again(examples.find((it) => it.name === $("example").value)?.text.replace(/\n$/, "").split("\n") || []);
-  $("example").onchange = () => $("again").onclick();
-  $("now").onclick = () => choose(newestAt());
+/** Begins the chosen example, or a script of one's own, unless lines would be lost that someone keeps. */
+let picked = "";
+function startAnew() {
+  if (!mayLose()) {
+    $("example").value = picked;
+    return;
+  }
+  picked = $("example").value;
+  again(examples.find((it) => it.name === picked)?.text.replace(/\n$/, "").split("\n") || []);
 }
 
-/** Sends what was typed, line by line, up to the first that fails. */
+/** What a click does; the further ones of a double click do nothing. */
+const once = (act) => (event) => { if (event.detail < 2) act(); };
+
+function useButtons() {
+  $("theme").onclick = nextTheme;
+  $("step").onclick = once(step);
+  $("all").onclick = once(() => take(todo.length));
+  $("save").onclick = save;
+  $("again").onclick = startAnew;
+  $("example").onchange = startAnew;
+  $("now").onclick = async () => {
+    await choose(newestAt());
+    stopAt(items[chosen]);
+    items[chosen].firstElementChild.focus({ preventScroll: true });
+  };
+  $("stop").onclick = () => { isStopped = true; };
+  $("lines").onkeydown = goInLines;
+}
+
+/** Has the box for lines as high as what is in it, up to six rows. */
+const fitLine = () => { $("line").rows = Math.min(6, $("line").value.split("\n").length); };
+
+/** Sends what was typed. What was not sent, since something failed or was stopped, is in the box again. */
 async function sendTyped(event) {
   event.preventDefault();
   if (busy) return;
   const line = $("line"), lines = line.value.split(/\r?\n/);
   line.value = "";
   recall = 0;
-  line.rows = 1;
-  for (const it of lines) if (!await send(it)) break;
-  drawLines();
+  fitLine();
+  const done = await send(lines);
+  unsaved += lines.slice(0, done).filter(isLine).length;
+  if (done < lines.length) line.value = [...lines.slice(done), ...(line.value ? [line.value] : [])].join("\n");
+  fitLine();
   line.focus();
 }
 
+/** Enter sends; Up and Down go through the lines that were sent, and back to what was being typed. */
+let draft = "";
 function typed(event) {
   const line = $("line");
   if (event.key === "Enter" && !event.shiftKey) {
@@ -66,8 +93,9 @@ function typed(event) {
   }
   if (/Arrow(Up|Down)/.test(event.key) && !line.value.includes("\n")) {
     const mine = sent.filter((it) => it.note === undefined);
+    if (!recall) draft = line.value;
     recall = Math.max(0, Math.min(mine.length, recall + (event.key === "ArrowUp" ? 1 : -1)));
-    line.value = recall ? mine.at(-recall).line : "";
+    line.value = recall ? mine.at(-recall).line : draft;
     event.preventDefault();
   }
 }
@@ -75,8 +103,9 @@ function typed(event) {
 function useForms() {
   $("ask").onsubmit = sendTyped;
   $("line").onkeydown = typed;
-  $("line").oninput = () => { $("line").rows = Math.min(6, $("line").value.split("\n").length); };
+  $("line").oninput = fitLine;
   $("load").onsubmit = startLoad;
+  $("start").onclick = (event) => { if (event.detail > 1) event.preventDefault(); };
   document.querySelector(".charts").onpointermove = pointed;
   document.querySelector(".charts").onpointerleave = () => { $("tip").hidden = true; };
 }
@@ -98,16 +127,17 @@ async function begin() {
   useButtons();
   useForms();
   watchWidth();
-  addEventListener("pagehide", () => session && navigator.sendBeacon(`/api/session/${session}/end`, new Blob(["{}"], { type: "application/json" })));
+  addEventListener("beforeunload", (event) => { if (unsaved || busy || $("line").value.trim()) event.preventDefault(); });
+  addEventListener("pagehide", () => session && navigator.sendBeacon(`api/session/${session}/end`, new Blob(["{}"], { type: "application/json" })));
   view(location.hash === "#load" ? "load" : "script");
   try {
-    const about = await (await fetch("/api/about")).json();
+    const about = await (await fetch("api/about")).json();
     examples = about.examples;
     $("example").append(...examples.map((it) => make("option", { value: it.name }, it.name.replaceAll("_", " "))));
   } catch (error) {
     fault(error.message);
   }
-  again();
+  await again();
   drawCharts();
   document.body.dataset.ready = true;
 }

@@ -2,46 +2,33 @@
 /* The state after a line: the picture, what is under way, and the rows beside their pairs. */
 const CASE = { absent: "does not know it", delete_only: "removes its pairs, but puts none", write_only: "puts and removes its pairs, but does not read them", public: "puts, removes and reads its pairs" };
 
+/** A state with the versions, leases and writes that there were then. */
+function seenThen(state) {
+  const then = Object.fromEntries(Object.keys(past).map((name) => [name, past[name].slice(0, state.counts[name])]));
+  const keyOf = (it) => [it.server, it.version, it.from, it.until].join(" "), heldThen = new Map(state.held.map((it) => [keyOf(it), it]));
+  const leases = then.leases.map((it) => {
+    const held = heldThen.get(keyOf(it));
+    return { ...it, in_force: Boolean(held?.in_force), standing: held?.standing || "no longer held", held: Boolean(held) };
+  });
+  return { ...state, ...then, leases };
+}
+
 function drawState() {
-  const it = chosen >= 0 ? sent[chosen] : null, state = it?.state, audit = state?.audit;
+  const chosenLine = chosen >= 0 ? sent[chosen] : null, isOpen = Boolean(chosenLine?.state?.open);
+  const it = isOpen ? { ...chosenLine, state: seenThen(chosenLine.state) } : chosenLine, state = it?.state, audit = state?.audit;
   $("audit").textContent = audit ? `${plural(audit.rows, "row")}; pairs: ${audit.missing} missing, ${audit.extra} extra` : "";
   $("audit").className = audit && audit.missing + audit.extra ? "wrong" : "";
-  $("fills").hidden = !state?.open || !state.progress.length;
-  if (!state?.open) {
+  $("changes").hidden = !isOpen || !state.jobs.length;
+  if (!isOpen) {
     $("picture").replaceChildren(make("p", { class: "empty" }, "Nothing is open yet. The picture begins with the line open."));
     $("tables").replaceChildren(make("p", { class: "empty" }, "No rows yet."));
     $("did").replaceChildren();
     return;
   }
   $("picture").replaceChildren(picture(state, $("picture").clientWidth || 640, it.number), make("p", { class: "used" }, used(state)));
-  $("progress").replaceChildren(make("div", { class: "under" }, state.progress.flatMap(underWay)));
+  redraw($("jobs"), drawJobs(state, chosenLine === newest()));
   $("did").replaceChildren(...did(it));
-  $("tables").replaceChildren(...state.tables.flatMap((table) => drawTable(it, table)));
-}
-
-/** What an element that is being added or dropped waits for. */
-function waiting(it) {
-  const { waits } = it;
-  if (waits.for === "publication") return `its next state may be published at ${waits.from}`;
-  if (waits.for === "begin") {
-    const reads = waits.reads === undefined ? "" : `, and would read ${plural(waits.reads, "row")}`;
-    return `its ${waits.work} may begin${waits.from === undefined ? "" : ` at ${waits.from}`}${reads}`;
-  }
-  const passed = waits.rows === undefined ? `${plural(waits.left, "pair")} left` : `${waits.passed} of ${waits.rows} rows passed`;
-  return `${waits.work}: ${waits.ended} of ${waits.pieces} pieces ended, ${passed}`;
-}
-
-function drawPieces(it) {
-  if (!it.pieces) return "";
-  const piece = ({ number, ended, left, all }) => {
-    const kind = ended ? "done" : left < all ? "part" : "todo";
-    return make("i", { class: kind, title: `piece ${number}: ${ended ? "ended" : `${left} of ${all} left`}` });
-  };
-  return make("div", { class: `pieces ${it.waits.work}`, role: "img", "aria-label": waiting(it) }, it.pieces.map(piece));
-}
-
-function underWay(it) {
-  return [make("b", {}, `${it.table}.${it.name}`), make("div", {}, drawPieces(it), make("span", {}, `${WORDS[it.state]}, ${it.way}: ${waiting(it)}`))];
+  redraw($("tables"), ...state.tables.flatMap((table) => drawTable(it, table)));
 }
 
 /** All pairs that a line put and removed on the pages. */
@@ -147,21 +134,26 @@ function drawTable(it, table) {
   const body = make("tbody", {}, rows.map((row) => drawRow(elements, row, changeOf(row))));
   const grid = make("table", {}, make("caption", {}, table.name), make("thead", {}, make("tr", {}, keys, elements.map(heading))), body);
   const empty = rows.length ? "" : make("p", { class: "empty" }, "No rows.");
-  return [make("div", { class: "scroll", tabindex: 0, role: "region", "aria-label": `Rows of ${table.name}` }, grid), empty, pagerOf(it, table, page)];
+  const region = { class: "scroll", tabindex: 0, role: "region", "aria-label": `Rows of ${table.name}`, "data-focus": table.name };
+  return [make("div", region, grid), empty, pagerOf(it, table, page)];
 }
 
 /** The buttons that go to the next rows of a table and back to the first ones. */
 function pagerOf(it, table, page) {
-  if (it !== newest() || (!page.next && !page.from)) return "";
-  const next = make("button", { class: "quiet", disabled: !page.next }, "Next rows"), first = make("button", { class: "quiet", disabled: !page.from }, "First rows");
-  next.onclick = () => turn(it, table.name, page.next);
-  first.onclick = () => turn(it, table.name, null);
-  return make("p", { class: "pager" }, first, " ", next);
+  if (it.number !== newest().number || (!page.next && !page.from)) return "";
+  const button = (text, isOff, from) => {
+    const made = make("button", { class: "quiet", "aria-disabled": String(isOff), "data-focus": `${table.name} ${text}` }, text);
+    made.onclick = () => { if (!isOff) turn(table.name, from); };
+    return made;
+  };
+  return make("p", { class: "pager" }, button("First rows", !page.from, null), " ", button("Next rows", !page.next, page.next));
 }
 
-async function turn(it, table, from) {
+async function turn(table, from) {
+  const it = newest();
   try {
-    it.state.pages[table] = await call(`/api/session/${session}/page`, { table, from });
+    const page = await call(`api/session/${session}/page`, { table, from });
+    it.state = { ...it.state, pages: { ...it.state.pages, [table]: page } };
     drawState();
   } catch (error) {
     fault(error.message);
