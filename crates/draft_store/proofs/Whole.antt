@@ -1,7 +1,6 @@
 -- The open versions, the log and the marks of a store with one map.
 use Rattle.std.proofs.Common.{◌≡◌, ℕ, List, [], ◌∷◌, ◌++◌, Some, refl, sym, ap, subst, ◌∙◌}
 use Rattle.std.specs.FinMap as map
-use Rattle.row_map.specs.Rows.{Bytes}
 use Rattle.drafts.specs.Calls.{Call, Transact, draft_of}
 use Rattle.drafts.specs.Coded.{AreFit, ByteStore, AreAppliedIn, after_in, applied_in, opened_in}
 use Rattle.drafts.specs.Laws.{rows_by}

@@ -22,7 +22,7 @@ use Rattle.drafts.specs.Log.{after_log}
 use Rattle.drafts.specs.Mirror.{open_at, piece_of}
 use Rattle.drafts.proofs.Marks.{KeepsMark, call_keeps}
 use Rattle.drafts.proofs.Opens.{none_some}
-use Rattle.drafts.proofs.Records.{here, apart}
+use Rattle.drafts.proofs.Records.{apart}
 use Rattle.drafts.proofs.Runs.{runs_stay_open, runs_have_logs}
 use Rattle.record_code.specs.Keys.{key_code, HasKey, IsNumber}
 use Rattle.record_code.specs.Records.{record_code, HasRecord, IsUnder}

@@ -18,8 +18,8 @@ returns-then-is_wanting c =
     let whole : c.elements-element-items.result.now ≡ live c.args.records.now.newest.schema = c.elements-element-items.ensures ∙ ap live newest_is in (
       c.is_wanting.ensures.0 c.if-is_wanting.true,
       none_lower c.args.records.now.newest.schema (IsWanting c.args.records.now) c.loop-element.element-index c.element-item.result (subst IsSoundVersion newest_is c.lemma_known.ensures) (λ n h. (h.element, h.there))
-      (subst (λ (es : List ElementDef). c.loop-element.element-index < length es) whole c.loop-element-test.true) (c.element-item.is ∙ ap (λ (es : List ElementDef). get_or es c.loop-element.element-index c.element-item.result) whole)
-      (subst (λ (es : List ElementDef). AllIn (λ (e : ElementDef). ¬ (IsWanting c.args.records.now e.number)) (take c.loop-element.element-index es)) whole c.loop-element.invariant),
+          (subst (λ (es : List ElementDef). c.loop-element.element-index < length es) whole c.loop-element-test.true) (c.element-item.is ∙ ap (λ (es : List ElementDef). get_or es c.loop-element.element-index c.element-item.result) whole)
+          (subst (λ (es : List ElementDef). AllIn (λ (e : ElementDef). ¬ (IsWanting c.args.records.now e.number)) (take c.loop-element.element-index es)) whole c.loop-element.invariant),
     )
 
 pub returns : goal.returns
