@@ -3,3 +3,4 @@ pub mod OneMap
 pub mod Controlled
 pub mod Sided
 pub mod Runs
+pub mod Whole

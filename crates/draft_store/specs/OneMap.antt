@@ -1,13 +1,14 @@
--- Cited by the contracts of one_map and runs_agree_in_one_map.
+-- Cited by the contracts of one_map, runs_agree_in_one_map, runs_have_logs_in_one_map and marks_are_once_in_one_map.
 -- The theorem on drafts, of a store that has control records and pairs in one map.
-use Rattle.std.specs.Prelude.{◌≡◌, ℕ, List, [], ◌∷◌, Bool, true, not, Option, Some, None, IsTrue, nat_lt, ◌↔◌}
+use Rattle.std.specs.Prelude.{◌≡◌, ℕ, List, [], ◌∷◌, ◌++◌, Bool, true, not, Option, Some, None, IsTrue, nat_lt, ◌↔◌}
 use Rattle.std.specs.List.{AllByRecursion}
 use Rattle.std.specs.FinMap as map
 use Rattle.keycode.specs.Order.{bytes_cmp}
 use Rattle.row_map.specs.Rows.{Bytes, Pairs}
 use Rattle.row_map.specs.declared.expect.KeyRange.{KeyRange}
+use Rattle.row_write.specs.Made.{PreparedTxn}
 use Rattle.schema_version.specs.Version.{Version}
-use Rattle.drafts.specs.Calls.{Call, draft_of}
+use Rattle.drafts.specs.Calls.{Call, Transact, draft_of}
 use Rattle.drafts.specs.Coded.{AreFit, ByteStore, MayApplyIn, applied_in}
 use Rattle.drafts.specs.Laws.{AreDrafted, rows_by}
 use Rattle.drafts.specs.declared.record.Record.{Record}
@@ -16,7 +17,7 @@ use Rattle.drafts.specs.Store.{Key, version_key, Draft}
 use Rattle.record_code.specs.Drafts.{parts_of, open_draft}
 use Rattle.record_code.specs.Keys.{key_code, HasKey, IsNumber}
 use Rattle.record_code.specs.Records.{record_code, HasRecord}
-use Rattle.record_code.specs.Runs.{store_after, IsRun, IsOpenIn}
+use Rattle.record_code.specs.Runs.{store_after, IsRun, IsOpenIn, HasNewestIn, HasLogIn}
 use Rattle.draft_store.specs.Apply.{Allows, after}
 
 -- ---- two maps in one
@@ -100,3 +101,17 @@ abbrev pub RunsAgreeInOneMap : Type 0
 RunsAgreeInOneMap =
     (schema : Version) (calls : List Call) (number : ℕ) (bytes : Bytes) → IsRunInOne schema calls → IsNumber number
     → map.get (one_after schema calls) (key_code (version_key number)) ≡ Some bytes → IsOpenIn bytes (rows_by map.empty calls) (sides (one_after schema calls))
+
+-- one or two versions are open
+abbrev pub RunsStayOpenInOneMap : Type 0
+RunsStayOpenInOneMap = (schema : Version) (calls : List Call) → IsRunInOne schema calls → HasNewestIn (one_after schema calls)
+
+-- it mirrors a log with an entry for each draft
+abbrev pub RunsHaveLogsInOneMap : Type 0
+RunsHaveLogsInOneMap = (schema : Version) (calls : List Call) → IsRunInOne schema calls → HasLogIn schema (sides (one_after schema calls)) (rows_by map.empty calls) calls
+
+-- no run applies two transactions with one mark
+abbrev pub MarksAreOnceInOneMap : Type 0
+MarksAreOnceInOneMap =
+    (schema : Version) (before : List Call) (first second : PreparedTxn) (name : Bytes) (between : List Call)
+    → ¬ (IsRunInOne schema (before ++ (Transact first (Some name) ∷ between ++ Transact second (Some name) ∷ [])))

@@ -10,5 +10,7 @@ mod laws;
 mod store;
 
 pub use fault::ApplyFault;
-pub use laws::{one_map, runs_agree_in_one_map};
+pub use laws::{
+    marks_are_once_in_one_map, one_map, runs_agree_in_one_map, runs_have_logs_in_one_map,
+};
 pub use store::MemoryStore;

@@ -138,6 +138,7 @@ module _ (facts : Facts) (store : Store) (b : Beginning) (k : IsKept facts) (m :
   pub begin_kept : HasEntry facts store (Begin b)
   begin_kept = record {
     entry = record { moment = earliest facts.line; what = BeginEntry b.element.number 1 };
+    entry_of = refl;
     later = m.clock.within;
     may = record { element = b.element; work = b.work; there = there; wants = made.wants; settled = settled; new = new; count = (omega arith, omega arith) };
     mirrors = record {

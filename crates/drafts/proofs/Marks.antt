@@ -18,7 +18,7 @@ use Rattle.drafts.proofs.Records.{here, apart, put_here, zero_three, one_three, 
 use Rattle.drafts.proofs.StepRecords.{IsIn, written_of}
 
 -- a write that is no mark's, or puts one
-abbrev KeepsMark : Bytes → Key × Option Record → Type 0
+abbrev pub KeepsMark : Bytes → Key × Option Record → Type 0
 KeepsMark name w = (w.0 ≢ mark_key name) ⊎ (w.1 ≡ Some OfMark)
 
 one_kept : (name : Bytes) (c : Control) (w : Key × Option Record) → KeepsMark name w → map.get c (mark_key name) ≡ Some OfMark → map.get (written c w.0 w.1) (mark_key name) ≡ Some OfMark
@@ -39,7 +39,7 @@ in_all : (name : Bytes) (ws : List (Key × Option Record)) → ((q : Key) → Is
 in_all name [] h = tt
 in_all name (w ∷ ws) h = (inl (h w.0 (inl refl)), in_all name ws (λ q i. h q (inr i)))
 
-call_keeps : (name : Bytes) (call : Call) → AllByRecursion (KeepsMark name) (draft_of call).writes
+pub call_keeps : (name : Bytes) (call : Call) → AllByRecursion (KeepsMark name) (draft_of call).writes
 call_keeps name (Transact txn None) = tt
 call_keeps name (Transact txn (Some other)) = (inr refl, tt)
 call_keeps name (Close newest) = (inl (no_mark name 0 _ zero_three), tt)

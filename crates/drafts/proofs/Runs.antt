@@ -19,7 +19,7 @@ use Rattle.replay.proofs.Time.{opened_kept}
 use Rattle.drafts.specs.Store.{Store, OfVersion, version_key, applied, opened}
 use Rattle.drafts.specs.Calls.{Call, Transact, Close, Begin, Divide, Piece, Publish, draft_of}
 use Rattle.drafts.specs.Mirror.{Mirrors, open_at}
-use Rattle.drafts.specs.Laws.{AreDrafted, AreApplied, after_calls, rows_by, HasEntry, DraftsKeep, AreLogged, IsEntryOf, AreEntriesOf, HasNext, AllKeep, opening_of, Agrees, RunsHaveLogs, RunsReplay, RunsAgree, HasNewest, RunsStayOpen}
+use Rattle.drafts.specs.Laws.{AreDrafted, AreApplied, after_calls, rows_by, HasEntry, DraftsKeep, AreLogged, AreEntriesOf, AreReplayOf, HasNext, AllKeep, opening_of, Agrees, RunsHaveLogs, RunsReplay, RunsAgree, HasNewest, RunsStayOpen}
 use Rattle.drafts.specs.Log.{LogEntry, Logged, BegunAt, after_one, after_log, MayComeNext, AllCome, LogsAgree}
 use Rattle.drafts.proofs.Begins.{begin_kept}
 use Rattle.drafts.proofs.Closes.{close_kept}
@@ -39,16 +39,16 @@ drafts_keep facts store (Divide d) k m made logged may = absurd logged
 drafts_keep facts store (Piece w) k m made logged may = piece_kept facts store w k m made may
 drafts_keep facts store (Publish p) k m made logged may = publish_kept facts store p k m made may
 
-by_entry : (facts : Facts) (store : Store) (call : Call) → ((entry : Entry) → IsEntryOf call (Logged entry)) → IsKept facts → HasEntry facts store call → HasNext facts store call
-by_entry facts store call of k e = record { one = Logged e.entry; entry_of = of e.entry; comes = (e.later, e.may); kept = call_kept facts e.entry.moment e.entry.what e.later e.may k; mirrors = e.mirrors; rows = e.rows }
+by_entry : (facts : Facts) (store : Store) (call : Call) → IsKept facts → HasEntry facts store call → HasNext facts store call
+by_entry facts store call k e = record { one = Logged e.entry; entry_of = e.entry_of; comes = (e.later, e.may); kept = call_kept facts e.entry.moment e.entry.what e.later e.may k; mirrors = e.mirrors; rows = e.rows }
 
 pub all_keep : AllKeep
-all_keep facts store (Transact txn mark) k m made may = by_entry facts store (Transact txn mark) (λ e. tt) k (txn_kept facts store txn mark k m made may)
-all_keep facts store (Close newest) k m made may = by_entry facts store (Close newest) (λ e. tt) k (close_kept facts store newest k m may)
-all_keep facts store (Begin b) k m made may = by_entry facts store (Begin b) (λ e. tt) k (begin_kept facts store b k m made may)
+all_keep facts store (Transact txn mark) k m made may = by_entry facts store (Transact txn mark) k (txn_kept facts store txn mark k m made may)
+all_keep facts store (Close newest) k m made may = by_entry facts store (Close newest) k (close_kept facts store newest k m may)
+all_keep facts store (Begin b) k m made may = by_entry facts store (Begin b) k (begin_kept facts store b k m made may)
 all_keep facts store (Divide d) k m made may = divide_kept facts store d k m made may
-all_keep facts store (Piece w) k m made may = by_entry facts store (Piece w) (λ e. tt) k (piece_kept facts store w k m made may)
-all_keep facts store (Publish p) k m made may = by_entry facts store (Publish p) (λ e. tt) k (publish_kept facts store p k m made may)
+all_keep facts store (Piece w) k m made may = by_entry facts store (Piece w) k (piece_kept facts store w k m made may)
+all_keep facts store (Publish p) k m made may = by_entry facts store (Publish p) k (publish_kept facts store p k m made may)
 
 -- what a list of drafts comes to
 pub record Ends (facts : Facts) (store : Store) (rows : Rows) (calls : List Call) : Type 0 where
@@ -75,20 +75,22 @@ all_end facts store (call ∷ calls) k m made may =
 
 -- ---- all drafts
 
-record Goes (facts : Facts) (store : Store) (rows : Rows) : Type 0 where
+record Goes (facts : Facts) (store : Store) (rows : Rows) (calls : List Call) : Type 0 where
   pub log : List Entry
+  pub entries : AreReplayOf calls log
   pub follows : AllFollow facts log
   pub kept : IsKept (after_all facts log)
   pub mirrors : Mirrors (after_all facts log) store
   pub rows_are : (after_all facts log).rows ≡ rows
 
-all_go : (facts : Facts) (store : Store) (calls : List Call) → IsKept facts → Mirrors facts store → AreDrafted calls → AreLogged calls → AreApplied store calls → Goes facts (after_calls store calls) (rows_by facts.rows calls)
-all_go facts store [] k m made logged may = record { log = []; follows = tt; kept = k; mirrors = m; rows_are = refl }
+all_go : (facts : Facts) (store : Store) (calls : List Call) → IsKept facts → Mirrors facts store → AreDrafted calls → AreLogged calls → AreApplied store calls → Goes facts (after_calls store calls) (rows_by facts.rows calls) calls
+all_go facts store [] k m made logged may = record { log = []; entries = tt; follows = tt; kept = k; mirrors = m; rows_are = refl }
 all_go facts store (call ∷ calls) k m made logged may =
     let e = drafts_keep facts store call k m made.0 logged.0 may.0 in
     let rest = all_go (after facts e.entry) (applied (draft_of call) store) calls (call_kept facts e.entry.moment e.entry.what e.later e.may k) e.mirrors made.1 logged.1 may.1 in
     record {
       log = e.entry ∷ rest.log;
+      entries = (e.entry_of, rest.entries);
       follows = (e.later, e.may, rest.follows);
       kept = rest.kept;
       mirrors = rest.mirrors;
@@ -132,7 +134,7 @@ module _ (schema : Version) (sound : IsSoundVersion schema) where
 pub runs_replay : RunsReplay
 runs_replay schema calls sound made logged may =
     let all = all_go (start (opening_of schema)) (opened schema) calls (opened_so schema sound) (first_mirror schema sound) made logged may in
-    record { log = all.log; follows = all.follows; mirrors = all.mirrors; rows_are = all.rows_are }
+    record { log = all.log; entries = all.entries; follows = all.follows; mirrors = all.mirrors; rows_are = all.rows_are }
 
 pub runs_have_logs : RunsHaveLogs
 runs_have_logs schema calls sound made may =

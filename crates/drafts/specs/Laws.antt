@@ -10,7 +10,10 @@ use Rattle.schema_version.specs.Version.{Version}
 use Rattle.element_state.specs.Consistent.{IsConsistent}
 use Rattle.row_write.specs.Made.{PreparedTxn, expects}
 use Rattle.row_write.specs.Plain.{transacted}
+use Rattle.reorganise.specs.declared.work.Progress.{Progress}
 use Rattle.replay.specs.declared.entry.Entry.{Entry}
+use Rattle.replay.specs.declared.entry.What.{What}
+use Rattle.replay.specs.declared.entry.What.TheVariants.{Lease as GrantEntry, Txn as TxnEntry, Publish as PublishEntry, Begin as BeginEntry, Piece as PieceEntry}
 use Rattle.replay.specs.Headline.{MayFollow, AllFollow}
 use Rattle.replay.specs.Kept.{IsKept}
 use Rattle.replay.specs.Replay.{Opening, Facts, start, after, replay}
@@ -49,9 +52,19 @@ rows_by rows (call ∷ calls) = rows_by (rows_after rows call) calls
 
 -- ---- one draft
 
+-- what an entry says of the draft: a transaction's has its operations, under its version; a close is time that goes by, which a lease of nobody tells
+abbrev pub IsWhatOf : Call → What → Type 0
+IsWhatOf (Transact txn mark) what = what ≡ TxnEntry txn.lease txn.ops
+IsWhatOf (Close newest) what = what ≡ GrantEntry (record { version = 0; granted = 0; until = 0 })
+IsWhatOf (Begin b) what = what ≡ BeginEntry b.element.number 1
+IsWhatOf (Divide d) what = ⊥
+IsWhatOf (Piece w) what = what ≡ PieceEntry w.read.element.number w.read.piece w.read.key_range.high
+IsWhatOf (Publish p) what = what ≡ PublishEntry p.step
+
 -- one more entry of the log, with which the store mirrors the log again
 pub record HasEntry (facts : Facts) (store : Store) (call : Call) : Type 0 where
   pub entry : Entry
+  pub entry_of : IsWhatOf call entry.what
   pub later : facts.moment ≤ entry.moment
   pub may : MayFollow facts entry.moment entry.what
   pub mirrors : Mirrors (after facts entry) (applied (draft_of call) store)
@@ -73,19 +86,19 @@ AreLogged (call ∷ calls) = IsLogged call × AreLogged calls
 abbrev pub DraftsKeep : Type 0
 DraftsKeep = (facts : Facts) (store : Store) (call : Call) → IsKept facts → Mirrors facts store → IsDrafted call → IsLogged call → MayApply (draft_of call) store → HasEntry facts store call
 
-abbrev pub IsLoggedOne : LogEntry → Type 0
-IsLoggedOne (Logged entry) = Unit {0}
-IsLoggedOne (BegunAt now begun) = ⊥
+-- a begin with given bounds is that begin
+abbrev pub IsBegunBy : Call → Progress → Type 0
+IsBegunBy (Divide d) begun = begun ≡ d.progress
+IsBegunBy (Transact txn mark) begun = ⊥
+IsBegunBy (Close newest) begun = ⊥
+IsBegunBy (Begin b) begun = ⊥
+IsBegunBy (Piece w) begun = ⊥
+IsBegunBy (Publish p) begun = ⊥
 
--- the entry that a draft is: a begin with given bounds is that begin, and any other draft an entry of `replay`
+-- the entry that a draft is
 abbrev pub IsEntryOf : Call → LogEntry → Type 0
-IsEntryOf (Divide d) (BegunAt now begun) = begun ≡ d.progress
-IsEntryOf (Divide d) (Logged entry) = ⊥
-IsEntryOf (Transact txn mark) one = IsLoggedOne one
-IsEntryOf (Close newest) one = IsLoggedOne one
-IsEntryOf (Begin b) one = IsLoggedOne one
-IsEntryOf (Piece w) one = IsLoggedOne one
-IsEntryOf (Publish p) one = IsLoggedOne one
+IsEntryOf call (Logged entry) = IsWhatOf call entry.what
+IsEntryOf call (BegunAt now begun) = IsBegunBy call begun
 
 -- one for each draft, in their order
 abbrev pub AreEntriesOf : List Call → List LogEntry → Type 0
@@ -120,9 +133,17 @@ pub record HasLog (schema : Version) (store : Store) (rows : Rows) (calls : List
   pub mirrors : Mirrors (after_log (start (opening_of schema)) log) store
   pub rows_are : (after_log (start (opening_of schema)) log).rows ≡ rows
 
+-- one for each draft, in their order
+abbrev pub AreReplayOf : List Call → List Entry → Type 0
+AreReplayOf [] [] = Unit {0}
+AreReplayOf [] (entry ∷ log) = ⊥
+AreReplayOf (call ∷ calls) [] = ⊥
+AreReplayOf (call ∷ calls) (entry ∷ log) = IsWhatOf call entry.what × AreReplayOf calls log
+
 -- a log of `replay`
-pub record HasReplay (schema : Version) (store : Store) (rows : Rows) : Type 0 where
+pub record HasReplay (schema : Version) (store : Store) (rows : Rows) (calls : List Call) : Type 0 where
   pub log : List Entry
+  pub entries : AreReplayOf calls log
   pub follows : AllFollow (start (opening_of schema)) log
   pub mirrors : Mirrors (replay (opening_of schema) log) store
   pub rows_are : (replay (opening_of schema) log).rows ≡ rows
@@ -149,7 +170,7 @@ RunsHaveLogs = (schema : Version) (calls : List Call) → IsSoundVersion schema 
 
 -- without begins at given keys the log is one of `replay`
 abbrev pub RunsReplay : Type 0
-RunsReplay = (schema : Version) (calls : List Call) → IsSoundVersion schema → AreDrafted calls → AreLogged calls → AreApplied (opened schema) calls → HasReplay schema (after_calls (opened schema) calls) (rows_by map.empty calls)
+RunsReplay = (schema : Version) (calls : List Call) → IsSoundVersion schema → AreDrafted calls → AreLogged calls → AreApplied (opened schema) calls → HasReplay schema (after_calls (opened schema) calls) (rows_by map.empty calls) calls
 
 abbrev pub RunsAgree : Type 0
 RunsAgree = (schema : Version) (calls : List Call) → IsSoundVersion schema → AreDrafted calls → AreApplied (opened schema) calls → Agrees (after_calls (opened schema) calls) (rows_by map.empty calls)

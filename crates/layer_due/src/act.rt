@@ -1,6 +1,6 @@
 //! The act that is due.
 ghost use Rattle.std.specs.Prelude.{IfOk, IfErr};
-ghost use Rattle.layer_due.specs.Due.{IsDue, IsStuck};
+ghost use Rattle.layer_due.specs.Due.{IsDue, IsStuck, ComesFirst, FailsFirst};
 
 use crate::ready::is_next_ready;
 use crate::records::{Records, cursor_of};
@@ -32,10 +32,11 @@ pub enum Act {
     Nothing,
 }
 
-/// Why nothing can be done by these records and steps.
+/// Why no act is given.
 #[derive(Clone, Copy, Debug, PartialEq, Eq, Error)]
 pub enum DueFault {
-    /// A piece has no cursor: the records were not read at one moment.
+    /// The piece that comes first has no cursor: the records were not read at one moment, so none
+    /// of them is worked on.
     #[error("the piece {piece} of the element {element} has no cursor")]
     NoCursor {
         /// The number of the element.
@@ -51,17 +52,23 @@ pub enum DueFault {
 
 /// What is due: a begin first, since its pieces can be worked on from then on, and before it the
 /// close that it waits for; then the first of the steps, if all that it needs has ended; then a
-/// piece. It changes nothing, takes no memory, and needs no plan to have been kept: any server may
-/// do the next act, and one finishes what another began.
+/// piece. Of several begins that of the element of the lowest number is given, and of several pieces
+/// the first that has not ended of the first reorganisation that has one. It changes nothing, takes
+/// no memory, and needs no plan to have been kept: any server may do the next act, and one finishes
+/// what another began.
 ///
 /// - `records`: the control records, as they were found at one moment of the store.
 /// - `steps`: what is left of a plan for the newest version, the next step first; none if nothing
 ///   more is planned.
 ///
-/// Refused by the names of `DueFault` if nothing can be done and something is left.
+/// Refused by the names of `DueFault`: `NoCursor` if the piece that would be given has no cursor among
+/// the records, whatever the others have; `NotReady` if nothing but steps is left, and the first one
+/// needs a fill or a clear that no element wants.
 pub fn due(records: &Records, steps: &[Step]) -> Result<Act, DueFault>
     ensures due { IfOk result (λ act. IsDue records.now steps.now act) }
+    ensures first { IfOk result (λ act. ComesFirst records.now act) }
     ensures refused { IfErr result (λ fault. IsStuck records.now steps.now fault) }
+    ensures failed { IfErr result (λ fault. FailsFirst records.now fault) }
 {
     if let Some(element) = find_wanting(records) {
         if records.previous_is_open {

@@ -5,3 +5,5 @@
 mod dues;
 #[cfg(test)]
 mod fixtures;
+#[cfg(test)]
+mod order;

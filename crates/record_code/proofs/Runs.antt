@@ -81,7 +81,7 @@ all_written bytes control [] e fit suit = e
 all_written bytes control (w ∷ ws) e fit suit =
     all_written (written bytes (key_code w.0) (option_map record_code w.1)) (written control w.0 w.1) ws (one_written bytes control w e fit.0 suit.0) fit.1 suit.1
 
-record Goes (bytes : ByteStore) (store : Store) (calls : List Call) : Type 0 where
+pub record Goes (bytes : ByteStore) (store : Store) (calls : List Call) : Type 0 where
   pub applied_so : AreApplied store calls
   pub same : Encodes (after_in key_code record_code bytes calls).control (after_calls store calls).control
   pub pairs : (after_in key_code record_code bytes calls).pairs ≡ (after_calls store calls).pairs
@@ -110,11 +110,11 @@ first_code schema known =
     (record { there = λ k h. map.get-empty bytes_cmp (key_code k) ∙ sym (ap (option_map record_code) (map.get-empty bytes_cmp k)); fit = λ k r h there. none_some (sym (map.get-empty bytes_cmp k) ∙ there) })
     (record { key = one_key 1 (omega arith); value = λ r e. subst HasRecord (some_one e) known }) refl
 
-goes : (schema : Version) (calls : List Call) → IsRun schema calls → Goes (opened_in key_code record_code schema) (opened schema) calls
+pub goes : (schema : Version) (calls : List Call) → IsRun schema calls → Goes (opened_in key_code record_code schema) (opened schema) calls
 goes schema calls run = all_go (opened_in key_code record_code schema) (opened schema) calls (first_code schema run.first) refl run.fit run.applied
 
 -- a value under a key is the code of the record under it
-record Found (k : Key) (bytes : Bytes) (control : Control) : Type 0 where
+pub record Found (k : Key) (bytes : Bytes) (control : Control) : Type 0 where
   pub found : Record
   pub there : map.get control k ≡ Some found
   pub fits : Fits k found
@@ -124,7 +124,7 @@ found_in : (k : Key) (bytes : Bytes) (control : Control) (o : Option Record) →
 found_in k bytes control None at fit e = none_some (sym e)
 found_in k bytes control (Some r) at fit e = record { found = r; there = at; fits = fit r refl; spelled = some_one e }
 
-find : (k : Key) (bytes : Bytes) (pairs : Pairs) (control : Control) → Encodes pairs control → HasKey k → map.get pairs (key_code k) ≡ Some bytes → Found k bytes control
+pub find : (k : Key) (bytes : Bytes) (pairs : Pairs) (control : Control) → Encodes pairs control → HasKey k → map.get pairs (key_code k) ≡ Some bytes → Found k bytes control
 find k bytes pairs control e has at = found_in k bytes control (map.get control k) refl (λ r there. e.fit k r has there) (sym at ∙ e.there k has)
 
 pub records_are_read : RecordsAreRead

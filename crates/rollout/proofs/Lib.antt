@@ -1,6 +1,7 @@
 pub mod Onward
 pub mod Ready
 pub mod Searches
+pub mod Lowest
 pub mod Accepted
 pub mod Falls
 pub mod CountLemmas

@@ -93,3 +93,13 @@ DueCondition facts now act.Nothing = (number : ℕ) → ¬ (IsUnderWay facts num
 
 abbrev pub IsDue : Facts → ℕ → Act → Type 0
 IsDue facts now = IsFirst due_rank (DueCondition facts now)
+
+-- ---- which element comes first
+
+-- of all acts that are due the one that is given is of the element of the lowest number
+abbrev pub ComesFirst : Facts → ℕ → Act → Type 0
+ComesFirst facts now (act.Begin number) = (other : ℕ) → other < number → ¬ (MayBegin facts now other)
+ComesFirst facts now (act.Publish step) = Unit {0}
+ComesFirst facts now (act.Work number) = (other : ℕ) → other < number → ¬ (IsOpen facts other)
+ComesFirst facts now (act.Wait until) = Unit {0}
+ComesFirst facts now act.Nothing = Unit {0}

@@ -2,7 +2,7 @@
 ghost use Rattle.std.specs.Prelude.{IfOk};
 ghost use Rattle.world.specs.State.{facts_of};
 ghost use Rattle.world.specs.Calls.{effective_moment};
-ghost use Rattle.rollout.specs.Due.{IsDue};
+ghost use Rattle.rollout.specs.Due.{IsDue, ComesFirst};
 
 use crate::candidates::{find_begin, find_open, is_under_way, ready_step};
 use schema_version::Step;
@@ -26,13 +26,14 @@ pub enum Act {
 
 /// What is due at a moment, for all changes that are under way: a begin first, since its pieces can
 /// be worked from then on; then the step of all elements that are ready; then a piece; then a wait.
-/// It changes nothing.
+/// Of several begins or pieces that of the element of the lowest number is given. It changes nothing.
 ///
 /// - `moment`: the effective moment is the greater of it and the moment of the last entry.
 ///
 /// Refused only when out of memory.
 pub fn due(alloc: Global, world: &World, moment: u64) -> Result<Act, AllocError>
-    ensures { IfOk result (λ act. IsDue (facts_of world.now) (effective_moment world.now moment) act) }
+    ensures due { IfOk result (λ act. IsDue (facts_of world.now) (effective_moment world.now moment) act) }
+    ensures first { IfOk result (λ act. ComesFirst (facts_of world.now) (effective_moment world.now moment) act) }
 {
     world.lemma_agrees();
     let now = moment.max(world.moment());

@@ -1,7 +1,7 @@
 //! The live elements, searched for what is due.
 ghost use Rattle.std.specs.Bool.{Decides};
 ghost use Rattle.std.specs.List.{list_any};
-ghost use Rattle.std.specs.Prelude.{◌≡◌, ℕ, IfOk, MatchOption, is_some};
+ghost use Rattle.std.specs.Prelude.{◌≡◌, ◌<◌, ℕ, IfOk, MatchOption, is_some};
 ghost use Rattle.world.specs.State.{facts_of};
 ghost use Rattle.rollout.specs.StatePath.{next_state as next_state_of};
 ghost use Rattle.rollout.specs.Due.{MayBegin, IsOpen, IsUnderWay, is_ended_at, is_ready_by, move_of, ready_moves as ready_moves_of, AreMovesNow};
@@ -85,9 +85,9 @@ fn may_begin(world: &World, now: u64, number: u32) -> bool
         && world.is_settled(now, number)
 }
 
-/// An element whose fill or clear may begin, if there is one.
+/// The element of the lowest number whose fill or clear may begin, if there is one.
 pub(crate) fn find_begin(world: &World, now: u64) -> Option<u32>
-    ensures { MatchOption result ((number : ℕ) → ¬ (MayBegin (facts_of world.now) now number)) (MayBegin (facts_of world.now) now) }
+    ensures { MatchOption result ((number : ℕ) → ¬ (MayBegin (facts_of world.now) now number)) (λ number. MayBegin (facts_of world.now) now number × ((other : ℕ) → other < number → ¬ (MayBegin (facts_of world.now) now other))) }
 {
     let schema = world.newest().get();
     schema.lemma_known();
@@ -112,9 +112,10 @@ fn is_open(world: &World, number: u32) -> bool
     }
 }
 
-/// An element whose fill or clear has begun and is not finished, if there is one.
+/// The element of the lowest number whose fill or clear has begun and is not finished, if there is
+/// one.
 pub(crate) fn find_open(world: &World) -> Option<u32>
-    ensures { MatchOption result ((number : ℕ) → ¬ (IsOpen (facts_of world.now) number)) (IsOpen (facts_of world.now)) }
+    ensures { MatchOption result ((number : ℕ) → ¬ (IsOpen (facts_of world.now) number)) (λ number. IsOpen (facts_of world.now) number × ((other : ℕ) → other < number → ¬ (IsOpen (facts_of world.now) other))) }
 {
     let schema = world.newest().get();
     schema.lemma_known();

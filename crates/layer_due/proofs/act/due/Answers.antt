@@ -7,7 +7,7 @@ pub returns-in-Some-cursor_of-clause-due : goal.returns-in-Some-cursor_of-clause
 returns-in-Some-cursor_of-clause-due c = (
   c.in_default.ensures,
   λ ready. true≢false (sym (c.is_next_ready.ensures.1 ready) ∙ c.if-is_next_ready.false),
-  c.in-Some-find_open.ensures,
+  c.in-Some-find_open.ensures.0,
   (
     c.in-Some-cursor_of.field-0.now.key,
     ap (λ (cursors : List Cursor). cursor_in cursors c.in-Some-find_open.element c.in-Some-find_open.piece) (sym c.as_slice.ensures) ∙ sym c.cursor_of.ensures
