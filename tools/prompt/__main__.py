@@ -35,7 +35,9 @@ def line_typed(session: Session) -> Optional[str]:
 
 
 def talk(session: Session, history: Optional[str]) -> None:
-    """Answers what is typed at a terminal, until it ends."""
+    """Answers what is typed at a terminal, until it ends: also bytes that are no text of it, and with texts that it cannot show."""
+    sys.stdin.reconfigure(errors="surrogateescape")  # type: ignore[attr-defined]
+    sys.stdout.reconfigure(errors="backslashreplace")  # type: ignore[attr-defined]
     completer, kept = Completer(session.program.ask), None
     try:
         import readline

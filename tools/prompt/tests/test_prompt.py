@@ -68,6 +68,18 @@ class Terminal:
         self.type(text + "\n")
         return self.wait(prompt)
 
+    def interrupt(self, prompt: str = r"v1 @5> $") -> None:
+        """Presses Ctrl-C until the prompt comes: a signal while `readline` still draws is seen with the next key alone, and a person is not that quick."""
+        for _ in range(10):
+            time.sleep(0.1)
+            self.type("\x03")
+            try:
+                self.wait(prompt, 2)
+                return
+            except AssertionError:
+                pass
+        raise AssertionError(f"Ctrl-C was not seen: {self.said!r}")
+
     def status(self) -> int:
         """Waits for its end, and gives its status."""
         while select.select([self.end], [], [], 15)[0]:
@@ -139,13 +151,11 @@ class AtTerminal(unittest.TestCase):
         terminal = self.opened()
         terminal.type("txn alice at 5: insert people (1")
         terminal.wait(r"people \(1")
-        terminal.type("\x03")
-        terminal.wait("v1 @5> $")
+        terminal.interrupt()
         self.assertIn("ok rows 0 missing 0 extra 0", terminal.line("check"))
         # in the second row of a line, too
         terminal.line("txn alice at 5: \\", r"\.\.\.> $")
-        terminal.type("\x03")
-        terminal.wait("v1 @5> $")
+        terminal.interrupt()
         self.assertIn("ok rows 0 missing 0 extra 0", terminal.line("check"))
         self.assertIn("ok done 2", terminal.line("txn alice at 6: insert people (1)"), "the program is the same, with its lease")
 
@@ -159,10 +169,23 @@ class AtTerminal(unittest.TestCase):
         terminal.wait("\n> $")
         terminal.type("wait\n")
         terminal.wait("wait")
-        time.sleep(0.3)
+        time.sleep(1)
         terminal.type("\x03")
         self.assertIn("# the answer is waited for", terminal.wait("waited\n> $"))
         self.assertIn("\nsay more\n", terminal.line("more"), "each answer is that of its line")
+
+    def test_bytes_that_are_no_text(self) -> None:
+        terminal = self.opened()
+        os.write(terminal.end, b"check \xff\n")
+        self.assertIn("bad line\n# the line is not UTF-8\n", terminal.wait(r"v1 @5> $"))
+        self.assertIn("ok rows 0 missing 0 extra 0", terminal.line("check"))
+
+    def test_a_terminal_of_few_characters(self) -> None:
+        file = pathlib.Path(self.home, "script")
+        file.write_text("txn alice at 5: insert people (1) set town = '\u0141\u00f3d\u017a'\n", "utf-8")
+        terminal = self.opened(PYTHONIOENCODING="latin-1")
+        terminal.line(f".read {file}")
+        self.assertIn(r"row (1) town = '\u0141", terminal.line("query alice at 5: select town from people"))
 
     def test_completion(self) -> None:
         terminal = self.opened()
@@ -170,8 +193,7 @@ class AtTerminal(unittest.TestCase):
                              ("query alice at 5: select to\t", "query alice at 5: select town "), (".sch\t", ".schema "), ("txn alice at 5: insert peop\t", "txn alice at 5: insert people ")):
             terminal.type(typed)
             terminal.wait(re.escape(whole) + "$")
-            terminal.type("\x03")
-            terminal.wait("v1 @5> $")
+            terminal.interrupt()
 
     def test_history_is_kept_for_its_owner(self) -> None:
         terminal = self.opened()
@@ -242,7 +264,7 @@ import json, sys, time
 for line in sys.stdin:
     line = line.strip()
     if line == "wait":
-        time.sleep(1)
+        time.sleep(3)
     print(json.dumps({"reply": ["bad line"] if line == "status" else ["waited"] if line == "wait" else ["say " + line], "remarks": []}), flush=True)
 '''
 
