@@ -2,6 +2,7 @@
 #![tactic(auto)]
 
 mod alone;
+mod carried;
 mod carry;
 mod conversation;
 mod details;

@@ -111,7 +111,7 @@ fn is_under_way(schema: &Schema, step: &Step) -> bool {
     })
 }
 
-/// That the kept plan is dropped, and how many steps are left of it; empty if there is none, or if what
+/// That the kept plan is dropped, how many steps are left of it, and what makes one again; empty if there is none, or if what
 /// its next step moves is under way. Refused only when out of memory.
 ///
 /// - `opened`: the plan, and the world.
@@ -125,5 +125,7 @@ pub fn plan_dropped(alloc: Global, opened: &Opened) -> Result<String, AllocError
     }
     let steps = plan.len();
     let are = if steps == 1 { "step is" } else { "steps are" };
-    format!(in alloc; "the plan is dropped, of which {steps} {are} left: `next` publishes them")
+    format!(in alloc;
+        "the plan is dropped, of which {steps} {are} left: `plan: ..` makes one again"
+    )
 }
