@@ -1,6 +1,7 @@
 //! What one element lacks and has too much, by the keys of its rows.
 ghost use Rattle.std.specs.Prelude.{◌≡◌, ◌++◌, IfOk, OnOk, codes, string_bytes};
 ghost use Rattle.std.specs.List.{flat_map};
+ghost use Rattle.std.specs.Option.{option_copied};
 ghost use Rattle.audit.specs.Audit.{numbered};
 ghost use Rattle.script_views.specs.Check.{ShowsElement, check_note, check_text, extra_line, key_tuple, missing_line, state_at, state_note};
 ghost use Rattle.script_views.specs.Unknown.{SaysUnknown};
@@ -10,7 +11,7 @@ use crate::tuples::push_tuple;
 use element_check::{ElementReport, check_element};
 use keycode::{Text, Values};
 use row_map::KeyOf;
-use schema_version::{ElementState, Schema};
+use schema_version::{ElementDef, ElementState, Schema};
 use script_session::Opened;
 use script_session::script_names::{element_number, table_number};
 use std::alloc::{AllocError, Global};
@@ -71,12 +72,21 @@ fn push_note(out: &mut String, missing: u64, state: ElementState) -> Result<(), 
     out.push_str(state_note(state))
 }
 
-// The state of the live element of this number; absent if there is none.
-fn state_of(schema: &Schema, number: u32) -> ElementState
-    ensures { result ≡ state_at (numbered schema.now number) }
+// The live element of this number.
+fn find_element(schema: &Schema, number: u32) -> Option<&ElementDef>
+    ensures { option_copied result ≡ numbered schema.now number }
 {
-    let mut elements = schema.elements().iter();
-    match elements.find(|element| element.number == number) {
+    schema
+        .elements()
+        .iter()
+        .find(|element| element.number == number)
+}
+
+// The state of an element; absent if there is none.
+fn state_of(element: Option<&ElementDef>) -> ElementState
+    ensures { result ≡ state_at (option_copied element.entry) }
+{
+    match element {
         Some(element) => element.state,
         None => ElementState::Absent,
     }
@@ -143,7 +153,7 @@ pub(crate) fn element_pairs(
             alloc,
             table.as_str(),
             name.as_str(),
-            state_of(schema, number),
+            state_of(find_element(schema, number)),
             &report,
         ),
         None => unknown_text(alloc, schema, table, name),
