@@ -27,10 +27,10 @@ fn push_visible_byte(alloc: Global, out: &mut Vec<u8>, byte: u8) -> Result<(), A
     ensures { OnOk result (out.new.items ≡ out.old.items ++ visible_byte byte) }
 {
     if is_control(byte) {
-        push_escaped(alloc, out, byte)
-    } else {
-        out.push(byte)
+        return push_escaped(alloc, out, byte);
     }
+    out.push(byte)?;
+    Ok(())
 }
 
 /// A text as a terminal is shown it: a byte that would control it, other than a line feed, is written
