@@ -1,11 +1,12 @@
 -- Cited by the contracts of converse and of the functions below it.
 -- What is read and written, line by line.
-use Rattle.std.specs.Prelude.{◌≡◌, ◌⊎◌, ◌++◌, ◌∷◌, ◌+◌, ◌-◌, ◌^◌, ◌==◌, ◌||◌, ◌&&◌, ⊤, ℕ, zero, suc, List, [], length, Option, Some, None, Result, Ok, Err, Bool, true, false, cond, codes, if◌then◌else◌}
+use Rattle.std.specs.Prelude.{◌≡◌, ◌⊎◌, ◌++◌, ◌∷◌, ◌+◌, ◌-◌, ◌^◌, ◌==◌, ◌||◌, ◌&&◌, ⊤, ℕ, zero, suc, List, [], length, Option, Some, None, Result, Ok, Err, Bool, true, false, not, nat_lt, cond, codes, if◌then◌else◌}
 use Rattle.std.specs.Fmt.{decimal}
 use Rattle.std.specs.Io.KnownBytes.{Appends}
 use Rattle.std.specs.List.{flat_map}
 use Rattle.std.specs.Str.{IsUtf8, bytes_eq, trim}
 use Rattle.lease.specs.Timeline.{newest}
+use Rattle.script_grammar.specs.Print.{hex}
 use Rattle.script_json.specs.Answer.{IsAnswerText}
 use Rattle.script_json.specs.Texts.{bad_line}
 use Rattle.script_json.specs.Replies.{Reply}
@@ -106,10 +107,22 @@ abbrev pub remark_text : List ℕ → List ℕ
 remark_text [] = []
 remark_text (b ∷ bs) = codes "# " ++ flat_map remark_byte (b ∷ bs) ++ codes "\n"
 
+-- a byte that controls a terminal; a line feed ends a line
+abbrev pub is_control : ℕ → Bool
+is_control b = (b == 127) || (nat_lt b 32 && not (b == 10))
+
+-- `\x1b`
+abbrev pub escaped_byte : ℕ → List ℕ
+escaped_byte b = codes "\\x" ++ hex (b ∷ [])
+
+-- a byte as a terminal is shown it
+abbrev pub visible_byte : ℕ → List ℕ
+visible_byte b = if is_control b then escaped_byte b else b ∷ []
+
 -- A reply and its remarks in a form. What an object of JSON has besides them is said by no contract.
 abbrev pub IsTextOf : Form → List ℕ → List ℕ → List ℕ → Type 0
 IsTextOf Plain reply remark text = text ≡ reply ++ remark_text remark
-IsTextOf Shown reply remark text = text ≡ reply ++ remark_text remark
+IsTextOf Shown reply remark text = text ≡ flat_map visible_byte (reply ++ remark_text remark)
 IsTextOf Json reply remark text = IsAnswerText reply remark text
 
 -- What is written for a line in a form, which leaves new: the reply, and remarks.

@@ -2,6 +2,7 @@
 #![tactic(auto)]
 
 mod alone;
+mod carried;
 mod carry;
 mod conversation;
 mod details;
@@ -18,6 +19,7 @@ mod state;
 mod streams;
 mod try_line;
 mod undo;
+mod visible;
 
 pub use conversation::{Summary, converse};
 pub use fault::{PromptFault, prompt_status};

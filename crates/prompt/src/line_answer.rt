@@ -8,6 +8,7 @@ ghost use Rattle.prompt.specs.Moment.{IsForeign};
 ghost use Rattle.prompt.specs.Save.{is_save};
 ghost use Rattle.prompt.specs.Undo.{is_undo};
 
+use crate::carried::carried_text;
 use crate::carry::{CarryLine, carry_of, carry_on};
 use crate::details::{carry_details, no_details, pairs_before, reply_details, view_details};
 use crate::form::Form;
@@ -132,7 +133,7 @@ fn carry_asked(
     }
 }
 
-// Carries changes on as the line asks, and says so if that drops a plan, and what it changed since
+// Carries changes on as the line asks, and says if that drops a plan or waits, and what it changed since
 // these pairs; the names of elements that left this version with it are kept.
 fn carry_after<F: Files>(
     alloc: Global,
@@ -152,16 +153,10 @@ fn carry_after<F: Files>(
     };
     let dropped = plan_dropped(alloc, opened)?;
     let text = carry_on(alloc, opened, carry)?;
+    let remark = carried_text(alloc, dropped, text.as_str())?;
     let details = carry_details(alloc, opened, pairs)?;
     keep_gone(alloc, &mut state.gone, newest, &opened.world)?;
-    let answer = answer_of(
-        alloc,
-        form,
-        text.as_str(),
-        false,
-        dropped.as_str(),
-        &details,
-    )?;
+    let answer = answer_of(alloc, form, text.as_str(), false, remark.as_str(), &details)?;
     Ok(answer)
 }
 

@@ -1,10 +1,11 @@
 //! A reply and its remarks, in the form that was asked for.
 ghost use Rattle.std.specs.Prelude.{◌≡◌, ◌++◌, IfOk, OnOk};
 ghost use Rattle.std.specs.List.{flat_map};
-ghost use Rattle.prompt.specs.Conversation.{IsTextOf, remark_byte, remark_text};
+ghost use Rattle.prompt.specs.Conversation.{IsTextOf, remark_byte, remark_text, visible_byte};
 ghost use Rattle.script_json.specs.Answer.{IsAnswerText};
 
 use crate::form::Form;
+use crate::visible::visible;
 use script_json::{Details, answer_text};
 use std::alloc::{AllocError, Global};
 
@@ -61,6 +62,14 @@ fn plain_text(alloc: Global, reply: &str, remark: &str) -> Result<Vec<u8>, Alloc
     Ok(text)
 }
 
+// The same as a terminal is shown it.
+fn shown_text(alloc: Global, reply: &str, remark: &str) -> Result<Vec<u8>, AllocError>
+    ensures { IfOk result (λ text. text.items ≡ flat_map visible_byte (reply.now ++ remark_text remark.now)) }
+{
+    let text = plain_text(alloc, reply, remark)?;
+    visible(alloc, text.as_slice())
+}
+
 fn json_text(
     alloc: Global,
     reply: &str,
@@ -84,7 +93,8 @@ fn written(
     ensures { IfOk result (λ text. IsTextOf form reply.now remark.now text.items) }
 {
     match form {
-        Form::Plain | Form::Shown => plain_text(alloc, reply, remark),
+        Form::Plain => plain_text(alloc, reply, remark),
+        Form::Shown => shown_text(alloc, reply, remark),
         Form::Json => json_text(alloc, reply, remark, details),
     }
 }

@@ -64,11 +64,14 @@ fn mistake_text(alloc: Global, session: &Session, line: &str) -> Result<String, 
 }
 
 /// What is wrong with a line: the hint that it would get as a bad line, or that nothing is, or that it
-/// is a line of the prompt. Refused only when out of memory.
+/// is a line of the prompt; the form of `try` if there is no line. Refused only when out of memory.
 ///
 /// - `session`: the session, which is only read.
 /// - `line`: the line that is tried, without its ending.
 pub(crate) fn try_text(alloc: Global, session: &Session, line: &str) -> Result<String, AllocError> {
+    if line.is_empty() {
+        return "try LINE says what is wrong with LINE, as in `try lease a`".to_string(alloc);
+    }
     if is_foreign(alloc, line.as_bytes())? && is_own(alloc, session, line)? {
         return "this is a line of the prompt".to_string(alloc);
     }

@@ -3,8 +3,9 @@ use crate::declared::opening_faults;
 use crate::hint::hint_of;
 use crate::in_way::push_replaced;
 use crate::rows::work_row;
+use keycode::Text;
 use script_grammar::{Command, read_command};
-use script_progress::script_session::Session;
+use script_progress::script_session::{Opened, Session};
 use std::alloc::{AllocError, Global};
 
 /// What a line may take away that its hint speaks of.
@@ -18,6 +19,20 @@ pub enum Before {
     Work(String),
     /// How many steps are left of the plan that another one replaces.
     Plan(usize),
+    /// That other work of the name is prepared, which this takes the place of.
+    Replaced(String),
+}
+
+// What is prepared under a name that a line prepares something under.
+fn replaced(alloc: Global, opened: &Opened, name: &Text) -> Result<Before, AllocError> {
+    if opened.pending.get(name.as_bytes()).is_none() {
+        return Ok(Before::Nothing);
+    }
+    let name = name.as_str();
+    let text = format!(in alloc;
+        "this replaces what was prepared as {name}, which was not committed"
+    )?;
+    Ok(Before::Replaced(text))
 }
 
 fn before_command(
@@ -34,6 +49,8 @@ fn before_command(
             Ok(Before::Work(work_row(alloc, opened, name)?))
         }
         (Session::Running(opened), Command::Plan { .. }) => Ok(Before::Plan(opened.plan.len())),
+        (Session::Running(opened), Command::Prepare { name, .. } | Command::Piece { name, .. }) =>
+            replaced(alloc, opened, name),
         _ => Ok(Before::Nothing),
     }
 }
@@ -72,6 +89,9 @@ impl Before {
         match (session, self) {
             (Session::Running(_), Before::Plan(steps)) if reply.contains("ok plan ") => {
                 push_replaced(out, *steps)
+            }
+            (Session::Running(_), Before::Replaced(text)) if reply == "ok prepared\n" => {
+                out.push_str(text.as_str())
             }
             (Session::Declaring(_), _) if reply == "ok\n" && !out.is_empty() => {
                 out.push_str("\nundo takes this line back")

@@ -1,4 +1,4 @@
-//! What each command is for.
+//! What each command is for, and what else there is to know.
 use script_mistakes::row_of;
 use std::alloc::{AllocError, Global};
 
@@ -58,6 +58,53 @@ cut|gives the memory of the log's entries back; no reply changes|cut|\n\
 save|writes the state into a file, from which shell prompt --at FILE goes on|save people.saved|\n\
 quit|ends the prompt|quit|\n";
 
+/// Words that are no commands, and the command that they are in.
+const WORDS: &str = "\
+insert|txn\n\
+update|txn\n\
+delete|txn\n\
+set|txn\n\
+select|query\n\
+from|query\n\
+where|query\n\
+between|query\n\
+add|plan\n\
+drop|plan\n\
+abandon|plan\n\
+move|publish\n\
+turn|publish\n\
+exit|quit\n";
+
+/// What else there is to know.
+const TOPICS: &str = "\
+moments|a moment is a number of the script's own time, as in `lease a at 5`; moments never fall, and at a \
+prompt `at M` may be left out: it is the last moment then\n\
+values|a whole number of 64 bits, a text in single quotes with each quote in it twice, true, false or null\n\
+types|int, a whole number of 64 bits; text, at most 1,024 bytes; bool\n\
+names|an ASCII letter, and then letters, digits and `_`: at most 32 bytes\n\
+states|absent, delete_only, write_only, public: a version moves an element by one of them\n\
+key|a row is named by its key: `people (1)` in an operation, `key = (1)` in a query\n";
+
+/// Other words for these.
+const TOPIC_WORDS: &str = "\
+moment|moments\n\
+at|moments\n\
+time|moments\n\
+value|values\n\
+null|values\n\
+type|types\n\
+int|types\n\
+text|types\n\
+bool|types\n\
+name|names\n\
+state|states\n\
+keys|key\n";
+
+// The text of what is no command, if there is one.
+fn topic_text(word: &str) -> Option<&'static str> {
+    row_of(TOPICS, row_of(TOPIC_WORDS, word).unwrap_or(word))
+}
+
 fn all_commands(alloc: Global) -> Result<String, AllocError> {
     let mut out = "help COMMAND explains one; `at M` may be left out\n".to_string(alloc)?;
     for line in COMMANDS.lines() {
@@ -68,14 +115,8 @@ fn all_commands(alloc: Global) -> Result<String, AllocError> {
     Ok(out)
 }
 
-/// What a command is for: its form, by an example, and its refusals; or all commands, a line each.
-/// Refused only when out of memory.
-///
-/// - `command`: the command's word; all if it is none.
-pub(crate) fn help_text(alloc: Global, command: &str) -> Result<String, AllocError> {
-    let Some(row) = row_of(COMMANDS, command) else {
-        return all_commands(alloc);
-    };
+// A command's form, what it is for, and its refusals.
+fn command_text(alloc: Global, row: &str) -> Result<String, AllocError> {
     let (about, rest) = row.split_once('|').unwrap_or((row, ""));
     let (form, refusals) = rest.split_once('|').unwrap_or((rest, ""));
     let mut out = format!(in alloc; "{form}\n{about}")?;
@@ -84,4 +125,18 @@ pub(crate) fn help_text(alloc: Global, command: &str) -> Result<String, AllocErr
         out.push_str(refusals)?;
     }
     Ok(out)
+}
+
+/// What a command is for: its form, by an example, and its refusals; what there is to know of another
+/// word; or all commands, a line each. Refused only when out of memory.
+///
+/// - `word`: the command's word, a word of its line, or another; all commands if it is none.
+pub(crate) fn help_text(alloc: Global, word: &str) -> Result<String, AllocError> {
+    if let Some(row) = row_of(COMMANDS, row_of(WORDS, word).unwrap_or(word)) {
+        return command_text(alloc, row);
+    }
+    match topic_text(word) {
+        Some(text) => text.to_string(alloc),
+        None => all_commands(alloc),
+    }
 }

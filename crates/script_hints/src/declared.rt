@@ -1,4 +1,5 @@
 //! What `open` will refuse of the declarations.
+use crate::accepted::{KEY_COLUMN, begin};
 use keycode::Text;
 use lease::MAX_LENGTH;
 use row_map::ColumnType;
@@ -9,15 +10,6 @@ use script_grammar::Command;
 use script_progress::script_session::Declarations;
 use script_progress::script_views::push_nearest;
 use std::alloc::{AllocError, Global};
-
-// Begins a line for one more fault.
-fn begin(out: &mut String) -> Result<(), AllocError> {
-    if out.is_empty() {
-        Ok(())
-    } else {
-        out.push_str("\n")
-    }
-}
 
 // Adds that a count is past its limit, if it is.
 fn push_count(
@@ -199,8 +191,19 @@ fn first_named<'a>(tables: &'a [TableDef], name: &str) -> Option<&'a TableDef> {
     tables.iter().find(|it| it.name.as_str() == name)
 }
 
-/// What `open` will refuse of what a line has declared, a line for each fault; empty if it will
-/// refuse nothing. Refused only when out of memory.
+// Adds that a table has a column that no condition can name: one of the name `key` that is not its
+// whole key.
+fn push_key_column(out: &mut String, table: &TableDef) -> Result<(), AllocError> {
+    let is_part = table.key.len() > 1 && has_named(table.key.as_slice(), "key");
+    if is_part || has_named(table.columns.as_slice(), "key") {
+        begin(out)?;
+        out.push_str(KEY_COLUMN)?;
+    }
+    Ok(())
+}
+
+/// What `open` will refuse of what a line has declared, a line for each fault, and that a column is
+/// named as the key is; empty if there is nothing to say. Refused only when out of memory.
 ///
 /// - `declared`: the declarations, the line's among them.
 /// - `command`: the line's command.
@@ -212,7 +215,12 @@ pub(crate) fn declared_hint(
     let mut out = String::new(alloc);
     let tables = declared.tables.as_slice();
     match command {
-        Command::Table { .. } => push_table(&mut out, tables, tables.len().saturating_sub(1))?,
+        Command::Table { .. } => {
+            push_table(&mut out, tables, tables.len().saturating_sub(1))?;
+            if let Some(table) = tables.last() {
+                push_key_column(&mut out, table)?;
+            }
+        }
         Command::Index { table, .. } => {
             if let Some(table) = first_named(tables, table.as_str()) {
                 let place = table.indexes.len().saturating_sub(1);

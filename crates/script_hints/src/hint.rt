@@ -1,5 +1,6 @@
 //! The hint that goes with a reply.
 
+use crate::accepted::push_accepted;
 use crate::declared::declared_hint;
 use crate::in_way::left_out;
 use crate::refused::{opening_hint, refusal_hint, refusal_of};
@@ -111,7 +112,7 @@ fn refused_hint(
 }
 
 // What an accepted plan leaves unfinished.
-fn plan_hint(alloc: Global, session: &Session) -> Result<String, AllocError> {
+fn left_hint(alloc: Global, session: &Session) -> Result<String, AllocError> {
     match session {
         Session::Running(opened) => left_out(alloc, opened),
         Session::Declaring(_) => Ok(String::new(alloc)),
@@ -136,14 +137,15 @@ fn answered_hint(
     hint
 }
 
-fn accepted_hint(
+// What goes with a line that is not refused, by its reply alone.
+fn replied_hint(
     alloc: Global,
     session: &Session,
     line: &str,
     reply: &str,
 ) -> Result<String, AllocError> {
     if reply.contains("ok plan ") {
-        plan_hint(alloc, session)
+        left_hint(alloc, session)
     } else if reply == "ok\n" || reply.starts_with("ok refused ") {
         answered_hint(alloc, session, line, reply)
     } else {
@@ -151,10 +153,23 @@ fn accepted_hint(
     }
 }
 
+fn accepted_hint(
+    alloc: Global,
+    session: &Session,
+    line: &str,
+    reply: &str,
+) -> Result<String, AllocError> {
+    let mut out = replied_hint(alloc, session, line, reply)?;
+    if let Session::Running(opened) = session {
+        push_accepted(alloc, &mut out, opened, line)?;
+    }
+    Ok(out)
+}
+
 /// The hint that goes with a reply: where a bad line stops being a command and what was expected
 /// there, what a refusal means and what may be done, which row an operation is refused for, what
-/// `open` will refuse of a declaration, or what an accepted plan leaves unfinished. Empty for any
-/// other reply.
+/// `open` will refuse of a declaration, what an accepted plan leaves unfinished, that a column is
+/// named as the key is, or that a moment was passed. Empty for any other reply.
 ///
 /// - `session`: the session after the reply, which is only read.
 /// - `line`: the line that was answered, without its ending.

@@ -2,15 +2,18 @@
 //! stand. Each is a text made of a session that is only read, so none can change it.
 #![tactic(auto)]
 
+mod accepted;
 mod before;
 mod command_help;
 mod declared;
 mod explain_plan;
 mod hint;
 mod in_way;
+mod limits;
 mod meanings;
 mod refused;
 mod rows;
+mod unknown;
 mod views;
 
 pub use before::Before;

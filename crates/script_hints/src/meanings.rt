@@ -16,6 +16,7 @@ again\n\
 WrongSchema|it was prepared by another schema than that of its lease\n\
 TooManyOps|a transaction has at most 64 operations\n\
 TooEarly|the newest version has to stay the newest until moment {1}\n\
+TooEarly of next|the newest version has to stay the newest until moment {1}: `next at {1}`\n\
 NotAdjacent|the states are absent, delete_only, write_only, public; a step moves by one of \
 them, and a column without a default is never write_only\n\
 WrongWay|it is on its way in the other direction\n\
@@ -42,7 +43,8 @@ Memory|out of memory\n";
 
 /// What a refusal means; empty if there is nothing to say.
 ///
-/// - `name`: the refusal, or a lease's with ` of work`, since the line does not name the server then.
+/// - `name`: the refusal; a lease's with ` of work`, since the line does not name the server then, and
+///   `TooEarly of next`.
 pub(crate) fn meaning_of(name: &str) -> &'static str {
     row_of(MEANINGS, name).unwrap_or("")
 }

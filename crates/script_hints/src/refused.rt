@@ -1,14 +1,14 @@
 //! What a refusal means, and what may be done.
 use crate::in_way::in_the_way;
+use crate::limits::limit_hint;
 use crate::meanings::meaning_of;
-use keycode::Text;
+use crate::unknown::{unknown_change, unknown_element, unknown_move};
 use row_map::{KeyOf, read_key};
 use schema_version::Schema;
-use script_grammar::{Command, ElementName, NamedChange, NamedMove, New};
+use script_grammar::Command;
 use script_progress::script_session::Opened;
 use script_progress::script_views::{
-    Wrong, missing_element, missing_table, push_element, push_nearest, push_tuple,
-    wrong_operations, wrong_selection,
+    Wrong, push_element, push_nearest, push_tuple, wrong_operations, wrong_selection,
 };
 use std::alloc::{AllocError, Global};
 
@@ -86,6 +86,7 @@ fn meaning_for(command: &Command, name: &str) -> &'static str {
     match (command, name) {
         (Command::Commit { .. }, "BadLease") => meaning_of("BadLease of work"),
         (Command::Commit { .. }, "LeaseEnded") => meaning_of("LeaseEnded of work"),
+        (Command::Next { .. }, "TooEarly") => meaning_of("TooEarly of next"),
         _ => meaning_of(name),
     }
 }
@@ -209,71 +210,6 @@ fn wrong_line(
     }
 }
 
-fn unknown_element(
-    alloc: Global,
-    schema: &Schema,
-    element: &ElementName,
-) -> Result<Option<String>, AllocError> {
-    match missing_table(alloc, schema, &element.table)? {
-        Some(out) => Ok(Some(out)),
-        None => missing_element(alloc, schema, &element.table, &element.name),
-    }
-}
-
-fn unknown_new(alloc: Global, schema: &Schema, fresh: &New) -> Result<Option<String>, AllocError> {
-    let (table, columns): (&Text, &[Text]) = match fresh {
-        New::Index { table, columns, .. } => (table, columns.as_slice()),
-        New::Column { table, .. } => (table, &[]),
-    };
-    if let Some(out) = missing_table(alloc, schema, table)? {
-        return Ok(Some(out));
-    }
-    for column in columns {
-        if let Some(out) = missing_element(alloc, schema, table, column)? {
-            return Ok(Some(out));
-        }
-    }
-    Ok(None)
-}
-
-fn unknown_move(
-    alloc: Global,
-    schema: &Schema,
-    moves: &[NamedMove],
-) -> Result<Option<String>, AllocError> {
-    for named in moves {
-        let found = match named {
-            NamedMove::Enter { fresh, .. } => unknown_new(alloc, schema, fresh)?,
-            NamedMove::Go { element, .. } | NamedMove::Turn { element } => {
-                unknown_element(alloc, schema, element)?
-            }
-        };
-        if found.is_some() {
-            return Ok(found);
-        }
-    }
-    Ok(None)
-}
-
-fn unknown_change(
-    alloc: Global,
-    schema: &Schema,
-    changes: &[NamedChange],
-) -> Result<Option<String>, AllocError> {
-    for change in changes {
-        let found = match change {
-            NamedChange::Add(fresh) => unknown_new(alloc, schema, fresh)?,
-            NamedChange::DropIndex(element)
-            | NamedChange::DropColumn(element)
-            | NamedChange::Abandon(element) => unknown_element(alloc, schema, element)?,
-        };
-        if found.is_some() {
-            return Ok(found);
-        }
-    }
-    Ok(None)
-}
-
 // The name of a line on the schema that the newest version does not have.
 fn unknown(
     alloc: Global,
@@ -304,6 +240,7 @@ fn named_wrong(
         "Unknown" | "NotWanted" | "StillIndexed" => {
             unknown(alloc, opened.world.newest().get(), command)
         }
+        "Limit" => limit_hint(alloc, opened.world.newest().get(), command),
         _ => Ok(None),
     }
 }

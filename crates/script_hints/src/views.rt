@@ -13,6 +13,11 @@ use script_progress::{description, leases_text, plan_left, progress, timeline};
 use script_rows::rows_view;
 use std::alloc::{AllocError, Global};
 
+/// What may be explained.
+const EXPLAINED: &str =
+    "only a query and a plan are explained: explain query SERVER: select .. from TABLE where .., \
+    explain plan: CHANGES";
+
 // `check TABLE.NAME` with white space around its names; `None` if the words are no such name.
 fn element_view(alloc: Global, opened: &Opened, name: &str) -> Result<Option<String>, AllocError> {
     let Some((table, name)) = name.split_once('.') else {
@@ -45,6 +50,9 @@ fn opened_view(
         ("timeline", "") => Ok(Some(timeline(alloc, opened, gone, is_shown)?)),
         ("explain", line) if line.starts_with("plan") => {
             Ok(Some(plan_explanation(alloc, opened, line)?))
+        }
+        ("explain", words) if !words.is_empty() && !words.starts_with("query") => {
+            Ok(Some(EXPLAINED.to_string(alloc)?))
         }
         ("explain", query) => Ok(Some(explanation(alloc, opened, query)?)),
         _ => Ok(None),

@@ -28,6 +28,9 @@ fn late_key(pieces: &[Piece<'_>]) -> Option<usize> {
 ///
 /// - `pieces`: the pieces of the line.
 pub(crate) fn key_hint(alloc: Global, pieces: &[Piece<'_>]) -> Result<String, AllocError> {
+    if pieces.first().map_or(1, |piece| piece.column) > 1 {
+        return "1: a line begins with its first word: take the spaces out".to_string(alloc);
+    }
     if text_at(pieces, 0) != "table" {
         return "it is no line of a script".to_string(alloc);
     }

@@ -3,10 +3,16 @@
 #![tactic(auto)]
 
 mod expected;
+mod foreign;
+mod foreign_lines;
+mod foreign_words;
+mod forms;
 mod keys;
 mod meant;
 mod numbers;
+mod odd;
 mod pieces;
+mod quoted;
 mod rules;
 mod stop;
 mod table;

@@ -102,6 +102,18 @@ fn push_elements(
     Ok(())
 }
 
+// Adds by what a row is found, whatever its columns are called.
+fn push_key(out: &mut String, key: &[(Text, ColumnType)]) -> Result<(), AllocError> {
+    out.push_str("  key = (")?;
+    for (i, column) in key.iter().enumerate() {
+        if i > 0 {
+            out.push_str(", ")?;
+        }
+        out.push_str(column.0.as_str())?;
+    }
+    out.push_str(") finds a row\n")
+}
+
 fn push_table(
     alloc: Global,
     out: &mut String,
@@ -111,8 +123,10 @@ fn push_table(
     let schema = world.newest().get();
     if let Some(name) = schema.table_name(number) {
         write!(out, "{name}\n")?;
-        push_key_columns(out, schema.key_of(number).unwrap_or(&[]))?;
+        let key = schema.key_of(number).unwrap_or(&[]);
+        push_key_columns(out, key)?;
         push_elements(alloc, out, world, number)?;
+        push_key(out, key)?;
     }
     Ok(())
 }
@@ -137,7 +151,8 @@ fn missing_table(alloc: Global, schema: &Schema, table: &str) -> Result<String, 
 }
 
 /// The columns and indexes of a table of the newest version: name, type or columns, and state, with
-/// what an element that is being added or dropped waits for. Refused only when out of memory.
+/// what an element that is being added or dropped waits for; and by what a row is found. Refused only
+/// when out of memory.
 ///
 /// - `world`: the world.
 /// - `table`: the table's name; all tables if it is empty.

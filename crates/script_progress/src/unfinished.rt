@@ -78,6 +78,27 @@ fn entered<'a>(alloc: Global, plan: &'a [Step]) -> Result<Vec<&'a NewElement>, A
     Ok(found)
 }
 
+// Whether a reorganisation of an element has to end before its state may change.
+fn wants_work(world: &World, number: u32) -> bool {
+    match world.newest().get().element(number) {
+        Some(element) if !is_resting(element) => {
+            !matches!(waiting_of(world, element), Waiting::Publication(_))
+        }
+        _ => false,
+    }
+}
+
+// Whether the next step of the kept plan needs a fill or a clear that has not ended.
+fn needs_work(opened: &Opened) -> bool {
+    match opened.plan.as_slice() {
+        [next, ..] => next.as_slice().iter().any(|made| match made {
+            Move::Go { element, .. } => wants_work(&opened.world, *element),
+            Move::Enter { .. } | Move::Turn { .. } => false,
+        }),
+        [] => false,
+    }
+}
+
 /// The steps that are left of the kept plan, the next one first. Refused only when out of memory.
 ///
 /// - `opened`: the plan, and the world.
@@ -97,6 +118,9 @@ pub fn plan_left(alloc: Global, opened: &Opened) -> Result<String, AllocError> {
         out,
         "next publishes the first of them, from moment {earliest} on"
     )?;
+    if needs_work(opened) {
+        out.push_str(", once each fill and clear that it needs has ended")?;
+    }
     Ok(out)
 }
 
@@ -111,7 +135,7 @@ fn is_under_way(schema: &Schema, step: &Step) -> bool {
     })
 }
 
-/// That the kept plan is dropped, and how many steps are left of it; empty if there is none, or if what
+/// That the kept plan is dropped, how many steps are left of it, and what makes one again; empty if there is none, or if what
 /// its next step moves is under way. Refused only when out of memory.
 ///
 /// - `opened`: the plan, and the world.
@@ -125,5 +149,7 @@ pub fn plan_dropped(alloc: Global, opened: &Opened) -> Result<String, AllocError
     }
     let steps = plan.len();
     let are = if steps == 1 { "step is" } else { "steps are" };
-    format!(in alloc; "the plan is dropped, of which {steps} {are} left: `next` publishes them")
+    format!(in alloc;
+        "the plan is dropped, of which {steps} {are} left: `plan: ..` makes one again"
+    )
 }

@@ -1,6 +1,6 @@
 -- Cited by the contracts of named_view, named_pairs and of the functions below them, and by that of view_of in script_hints.
 -- What `check TABLE.NAME` shows of one element.
-use Rattle.std.specs.Prelude.{◌≡◌, ◌≢◌, ◌<◌, ◌++◌, ◌∷◌, ℕ, List, Option, length, get_or, ⊤, codes}
+use Rattle.std.specs.Prelude.{◌≡◌, ◌≢◌, ◌<◌, ◌==◌, ◌++◌, ◌∷◌, ℕ, List, [], Option, Some, None, length, get_or, ⊤, codes, if◌then◌else◌}
 use Rattle.std.specs.Fmt.{decimal}
 use Rattle.std.specs.List.{flat_map}
 use Rattle.std.specs.Option.{MatchOption, IsSomeAnd}
@@ -13,6 +13,8 @@ use Rattle.keycode.specs.declared.value.Value.{Value}
 use Rattle.row_map.specs.declared.key.KeyOf.{KeyOf}
 use Rattle.row_map.specs.declared.key.KeyOf.TheVariants.{Exists, Column, Index}
 use Rattle.schema_version.specs.declared.element.ElementDef.{ElementDef}
+use Rattle.schema_version.specs.declared.element.ElementState.{ElementState}
+use Rattle.schema_version.specs.declared.element.ElementState.TheVariants.{Absent, DeleteOnly, WriteOnly, Public}
 use Rattle.script_grammar.specs.Print.{value_text}
 use Rattle.script_session.specs.Names.{table_number, element_number}
 use Rattle.script_session.specs.Rows.{joined}
@@ -38,16 +40,31 @@ missing_line key = codes "\nmissing " ++ tuple key
 abbrev pub extra_line : KeyOf → List ℕ
 extra_line key = codes "\nextra " ++ key_tuple key
 
--- `TABLE.NAME missing M extra X`, and a line for each row and for each key of the report
-abbrev pub check_text : List ℕ → ElementReport → List ℕ
-check_text name report =
+-- what there is to know of rows that lack their pair of an element in this state
+abbrev pub state_note : ElementState → List ℕ
+state_note Absent = []
+state_note DeleteOnly = codes "\nmissing pairs are normal in delete_only: writers delete pairs, and write none"
+state_note WriteOnly = codes "\nmissing pairs are normal in write_only before a fill has ended"
+state_note Public = []
+
+abbrev pub check_note : ℕ → ElementState → List ℕ
+check_note missing state = if missing == 0 then [] else state_note state
+
+-- `TABLE.NAME missing M extra X`, a line for each row and for each key of the report, and the note
+abbrev pub check_text : List ℕ → ElementState → ElementReport → List ℕ
+check_text name state report =
     name ++ codes " missing " ++ decimal report.missing ++ codes " extra " ++ decimal report.extra
-    ++ flat_map missing_line report.missing_rows ++ flat_map extra_line report.extra_keys
+    ++ flat_map missing_line report.missing_rows ++ flat_map extra_line report.extra_keys ++ check_note report.missing state
+
+-- an element's state; absent is what is not there
+abbrev pub state_at : Option ElementDef → ElementState
+state_at None = Absent
+state_at (Some element) = element.state
 
 -- the check of an element by the newest version, with the first 20 of each
 abbrev pub IsElementText : State → List ℕ → ElementDef → List ℕ → Type 0
 IsElementText world name element text =
-    (report : ElementReport) × IsElementCheck (facts_of world).newest world.pairs element 20 report × (text ≡ check_text name report)
+    (report : ElementReport) × IsElementCheck (facts_of world).newest world.pairs element 20 report × (text ≡ check_text name element.state report)
 
 -- the number that the names have in the newest version
 abbrev pub number_of : State → List ℕ → List ℕ → ℕ

@@ -5,6 +5,9 @@ use Rattle.std.specs.FinMap as map
 use Rattle.std.specs.Option.{IsSomeAnd}
 use Rattle.std.specs.Str.{trim}
 use Rattle.row_query.specs.Path.{plain_path}
+use Rattle.row_query.specs.Refused.{IsRefused, IsSound}
+use Rattle.row_query.specs.declared.fault.QueryFault.{QueryFault}
+use Rattle.row_query.specs.declared.query.Query.{Query}
 use Rattle.row_query.specs.declared.query.Path.{Path}
 use Rattle.row_query.specs.declared.query.Path.TheVariants as path
 use Rattle.schema_version.specs.Version.{Version}
@@ -12,6 +15,8 @@ use Rattle.script_grammar.specs.Commands.{command_at}
 use Rattle.script_grammar.specs.declared.command.Command.{Command}
 use Rattle.script_grammar.specs.declared.command.Command.TheVariants as command
 use Rattle.script_grammar.specs.declared.selection.Selection.{Selection}
+use Rattle.script_session.specs.Rows.{fault_name}
+use Rattle.script_session.specs.Texts.{refused}
 use Rattle.script_session.specs.Names.{asked}
 use Rattle.script_session.specs.Session.{Session}
 use Rattle.script_session.specs.declared.session.Opened.{Opened}
@@ -49,13 +54,15 @@ path_words version (path.Index number) = codes "index " ++ element_name version 
 abbrev pub BeginsWith : List ℕ → List ℕ → Type 0
 BeginsWith line text = (text ≡ line) ⊎ ((remarks : List ℕ) × (text ≡ line ++ 10 ∷ remarks))
 
--- the path by which the selection is answered under the lease's schema
-abbrev pub path_line : Version → Selection → List ℕ
-path_line version selection = path_words version (plain_path version (asked version selection))
+-- By which path the query is answered under the version; or else why it is refused, as its reply has it, and remarks.
+abbrev pub ExplainsQuery : Version → Query → List ℕ → Type 0
+ExplainsQuery version query text =
+    (IsSound version query × (text ≡ path_words version (plain_path version query)))
+    ⊎ ((fault : QueryFault) × IsRefused version query fault × BeginsWith (refused (fault_name fault)) text)
 
 abbrev pub ExplainsUnder : Option ServerLease → Selection → List ℕ → Type 0
 ExplainsUnder None selection text = text ≡ codes "the server has no lease"
-ExplainsUnder (Some held) selection text = BeginsWith (path_line held.schema selection) text
+ExplainsUnder (Some held) selection text = ExplainsQuery held.schema (asked held.schema selection) text
 
 -- the path of a query, under its server's lease; or the form of the line
 abbrev pub Explains : Opened → Option (List ℕ × Selection) → List ℕ → Type 0

@@ -1,13 +1,19 @@
 //! By which path a query is answered.
-ghost use Rattle.std.specs.Prelude.{◌≡◌, ◌++◌, IfOk, OnOk, codes, option_map, string_bytes};
+ghost use Rattle.std.specs.Prelude.{◌≡◌, ◌++◌, IfOk, IfNone, IfSome, OnOk, codes, option_map, string_bytes};
 ghost use Rattle.collections.specs.Answers.{GivesOr};
 ghost use Rattle.script_tokens.specs.declared.fault.LineFault.TheVariants.{Memory};
-ghost use Rattle.script_views.specs.Explain.{BeginsWith, Explains, ExplainsUnder, explained, path_line, path_words, query_of, timed};
+ghost use Rattle.row_query.specs.Path.{plain_path};
+ghost use Rattle.row_query.specs.Refused.{IsRefused, IsSound};
+ghost use Rattle.script_session.specs.Rows.{fault_name};
+ghost use Rattle.script_session.specs.Texts.{refused};
+ghost use Rattle.script_session.specs.Names.{asked};
+ghost use Rattle.script_views.specs.Explain.{BeginsWith, Explains, ExplainsQuery, ExplainsUnder, explained, path_words, query_of, timed};
 
 use crate::element_words::push_element;
 use crate::named::{Wrong, wrong_selection};
+use byte_map::{Bytes, KeyMap};
 use keycode::Text;
-use row_query::{Path, path_of};
+use row_query::{Path, Query, QueryFault, answer, path_of};
 use schema_version::Schema;
 use script_grammar::{Command, Selection, read_command};
 use script_session::script_names::asked;
@@ -44,13 +50,36 @@ fn wrong_text(
     Ok(None)
 }
 
-fn path_text(alloc: Global, schema: &Schema, selection: Selection) -> Result<String, AllocError>
-    ensures { IfOk result (λ text. string_bytes text ≡ path_line schema.now selection) }
+fn path_text(alloc: Global, schema: &Schema, query: &Query) -> Result<String, AllocError>
+    ensures { IfOk result (λ text. string_bytes text ≡ path_words schema.now (plain_path schema.now query.now)) }
 {
-    let query = asked(alloc, schema, selection)?;
     let mut out = String::new(alloc);
-    push_path(&mut out, schema, path_of(schema, &query))?;
+    push_path(&mut out, schema, path_of(schema, query))?;
     Ok(out)
+}
+
+// Why a query is refused, if it is: what it is answered over no rows.
+fn fault_of(alloc: Global, schema: &Schema, query: &Query) -> Result<Option<QueryFault>, AllocError>
+    ensures sound { IfOk result (λ found. IfNone found (IsSound schema.now query.now)) }
+    ensures refused { IfOk result (λ found. IfSome found (λ fault. IsRefused schema.now query.now fault)) }
+{
+    let none: KeyMap<Bytes> = KeyMap::new(alloc);
+    match answer(alloc, schema, &none, query) {
+        Ok(_) => Ok(None),
+        Err(QueryFault::Memory) => Err(AllocError),
+        Err(fault) => Ok(Some(fault)),
+    }
+}
+
+fn push_fault(out: &mut String, fault: QueryFault) -> Result<(), AllocError>
+    ensures { OnOk result (string_bytes out.new ≡ string_bytes out.old ++ fault_name fault) }
+{
+    match fault {
+        QueryFault::NoTable => out.push_str("NoTable"),
+        QueryFault::NotPublic { column } => write!(out, "NotPublic {column}"),
+        QueryFault::WrongType => out.push_str("WrongType"),
+        QueryFault::Memory => out.push_str("Memory"),
+    }
 }
 
 // Adds a remark on a line of its own, if there is one.
@@ -66,19 +95,46 @@ fn push_remark(out: &mut String, remark: Option<String>) -> Result<(), AllocErro
     }
 }
 
-// The path of a selection, and what is wrong with it. That a remark is there if something is wrong is
-// said by no contract; `.ci/prompts` shows it.
+// The refusal of a query, and what is wrong with it. That a remark is there is said by no contract;
+// `.ci/prompts` shows it.
+fn refused_text(
+    alloc: Global,
+    fault: QueryFault,
+    remark: Option<String>,
+) -> Result<String, AllocError>
+    ensures { IfOk result (λ text. BeginsWith (refused (fault_name fault)) (string_bytes text)) }
+{
+    let mut out = "refused ".to_string(alloc)?;
+    push_fault(&mut out, fault)?;
+    push_remark(&mut out, remark)?;
+    Ok(out)
+}
+
+// The path of a query, or its refusal with what is wrong with it.
+fn query_text(
+    alloc: Global,
+    schema: &Schema,
+    query: &Query,
+    remark: Option<String>,
+) -> Result<String, AllocError>
+    ensures { IfOk result (λ text. ExplainsQuery schema.now query.now (string_bytes text)) }
+{
+    match fault_of(alloc, schema, query)? {
+        Some(fault) => refused_text(alloc, fault, remark),
+        None => path_text(alloc, schema, query),
+    }
+}
+
 fn selection_text(
     alloc: Global,
     schema: &Schema,
     selection: Selection,
 ) -> Result<String, AllocError>
-    ensures { IfOk result (λ text. BeginsWith (path_line schema.now selection) (string_bytes text)) }
+    ensures { IfOk result (λ text. ExplainsQuery schema.now (asked schema.now selection) (string_bytes text)) }
 {
     let remark = wrong_text(alloc, schema, &selection)?;
-    let mut out = path_text(alloc, schema, selection)?;
-    push_remark(&mut out, remark)?;
-    Ok(out)
+    let query = asked(alloc, schema, selection)?;
+    query_text(alloc, schema, &query, remark)
 }
 
 fn text_under(
@@ -134,9 +190,9 @@ fn query_of(alloc: Global, line: &str) -> Result<Option<(Text, Selection)>, Allo
     }
 }
 
-/// The path of a query under its server's lease, by the schema of that lease's version, and after
-/// it, on a line of its own, what is wrong with the query, if anything is. If the server has no
-/// lease, that it has none; if the line is no query, the form of the line. Refused only when out of
+/// The path of a query under its server's lease, by the schema of that lease's version; or, if it
+/// names what is not there or compares with a value of another type, its refusal, and what is wrong
+/// with it on a line of its own. If the server has no lease, that it has none; if the line is no query, the form of the line. Refused only when out of
 /// memory.
 ///
 /// - `opened`: the world and the leases, which are only read.

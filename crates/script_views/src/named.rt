@@ -262,6 +262,21 @@ pub fn wrong_operations(
     Ok(None)
 }
 
+// That a bound is null; `None` if neither is.
+fn null_bound(alloc: Global, column: &Text, bounds: [&Option<Value>; 2]) -> Found {
+    if !bounds
+        .iter()
+        .any(|bound| matches!(bound, Some(Value::Null)))
+    {
+        return Ok(None);
+    }
+    let name = column.as_str();
+    let out = format!(in alloc;
+        "no value is above or below null; `{name} = null` finds the rows without one"
+    )?;
+    Ok(Some(out))
+}
+
 fn wrong_condition(
     alloc: Global,
     schema: &Schema,
@@ -278,10 +293,16 @@ fn wrong_condition(
             wrong_cell(alloc, schema, table, (column, Some(value)), wrong)
         }
         Condition::Between { column, low, high } => {
-            let low = wrong_cell(alloc, schema, table, (column, low.as_ref()), wrong)?;
-            match low {
-                Some(out) => Ok(Some(out)),
-                None => wrong_cell(alloc, schema, table, (column, high.as_ref()), wrong),
+            for bound in [low, high] {
+                let cell = (column, bound.as_ref());
+                if let Some(out) = wrong_cell(alloc, schema, table, cell, wrong)? {
+                    return Ok(Some(out));
+                }
+            }
+            if wrong == Wrong::Type {
+                null_bound(alloc, column, [low, high])
+            } else {
+                Ok(None)
             }
         }
     }

@@ -12,7 +12,7 @@ const LONGEST: usize = 32;
 const MOST: usize = 2;
 
 // The first of the names that differs from the word in the fewest letters, two at most and fewer
-// than the word has.
+// than the word has; or one that differs in capitals alone.
 fn nearest<'a>(
     alloc: Global,
     word: &str,
@@ -24,6 +24,9 @@ fn nearest<'a>(
         return Ok(None);
     }
     for name in names {
+        if name.eq_ignore_ascii_case(word) {
+            return Ok(Some(*name));
+        }
         let distance = levenshtein(alloc, word, *name)?;
         if distance < least {
             least = distance;
@@ -34,7 +37,8 @@ fn nearest<'a>(
 }
 
 /// Adds `; the nearest is NAME`, if a name is near: the first of those that differ from the word in
-/// the fewest letters, two at most and fewer than the word has. A word over 32 bytes has none.
+/// the fewest letters, two at most and fewer than the word has, or one that differs in capitals alone.
+/// A word over 32 bytes has none.
 /// Refused only when out of memory; a part of it may be there then.
 ///
 /// - `out`: the text after which it is put.

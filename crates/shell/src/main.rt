@@ -83,9 +83,18 @@ fn answer_lines<R: BufRead + Drop>(
     prompt_status(&outcome)
 }
 
+/// A file that is no folder.
+fn open_file(rt: &HostRuntime, file: &str) -> io::Result<File> {
+    let opened = File::open(rt, file)?;
+    if opened.metadata()?.is_dir() {
+        return Err(io::Error::new(ErrorKind::InvalidInput, "it is a folder"));
+    }
+    Ok(opened)
+}
+
 /// A reader of a file; or else the exit status, after standard error has why.
 fn opened(rt: &HostRuntime, file: &str) -> Result<BufReader<File>, u8> {
-    match File::open(rt, file) {
+    match open_file(rt, file) {
         Ok(opened) => BufReader::new(rt.alloc(), opened).map_err(|_| NO_MEMORY),
         Err(fault) => {
             let _ = eprintln!(rt; "fault: {file}: {fault}");
