@@ -565,14 +565,24 @@ int32_t cagzhomul_schema(cagzhomul_world_handle *world, cagzhomul_bytes_handle *
 
 /* Plans a batch of changes, by its code, from the newest version of the world: writes the code of
  * the least plan, as much of it as fits in `out`. A step of the plan has the reorganisations that
- * must end before it, and moves, which are the code of a step for cagzhomul_publish once a byte 1
- * is put before them. Nothing changes, so it may be asked again with more room.
+ * must end before it, and moves; cagzhomul_plan_step gives the moves as the code of a step. Nothing
+ * changes, so it may be asked again with more room.
  * CAGZHOMUL_OK, with the length of the whole code. Refusals: CAGZHOMUL_CLOSED; CAGZHOMUL_BAD_CODE,
  * also of a default with a text of more than 1,024 bytes; of the first change that cannot be
  * planned the first of CAGZHOMUL_UNKNOWN, CAGZHOMUL_NAME_TAKEN, CAGZHOMUL_DEPENDENT if an index is
  * on the column, CAGZHOMUL_IN_CHANGE and CAGZHOMUL_OVER_LIMIT; CAGZHOMUL_OUT_OF_MEMORY. */
 cagzhomul_outcome cagzhomul_plan(cagzhomul_world_handle *world, const uint8_t *changes,
                                  size_t changes_length, uint8_t *out, size_t out_length);
+
+/* Writes the code of a step of a plan, of which the first has the number 0, as cagzhomul_publish takes
+ * it, as much of it as fits in `out`; the bytes of `out` after it stay. It uses no handle. So a
+ * program in any language begins a change by cagzhomul_plan, its step 0 and cagzhomul_publish, and
+ * cagzhomul_advance does the rest.
+ * CAGZHOMUL_OK, with the length of the code. Refusals: CAGZHOMUL_BAD_CODE if the bytes are the code of
+ * no plan; CAGZHOMUL_BAD_COUNT if it has no step of this number; CAGZHOMUL_OUT_OF_MEMORY, which may
+ * come in place of both. */
+cagzhomul_outcome cagzhomul_plan_step(const uint8_t *plan, size_t plan_length, size_t number,
+                                      uint8_t *out, size_t out_length);
 
 /* Publishes the version that a step gives, by its code, in the world. What the step needs next is
  * done by cagzhomul_advance.

@@ -67,6 +67,13 @@ class Format(unittest.TestCase):
     def test_changes_their_plan_and_all_entries(self) -> None:
         changes, step = self.codes["changes"], self.codes["step"]
         self.assertEqual(self.written_by(_library.cagzhomul_plan, self.world, changes, len(changes)), self.codes["plan"])
+        plan = self.codes["plan"]
+        second = b"\1" + (1).to_bytes(8, "big") + bytes.fromhex("01 00000002 02")  # the move of its second step, as the page has it
+        for number, due in enumerate((step, second)):
+            self.assertEqual(self.written_by(_library.cagzhomul_plan_step, plan, len(plan), number), due)
+        out = ctypes.create_string_buffer(ROOM)
+        for code, number, status in ((plan, 3, 12), (plan[:-1], 0, 17), (plan + b"\0", 0, 17)):
+            self.assertEqual((_library.cagzhomul_plan_step(code, len(code), number, out, ROOM).status, out.raw), (status, bytes(ROOM)))
         self.assertEqual(_library.cagzhomul_publish(self.world, 20, step, len(step)).status, 0)
         schema = _BytesHandle()
         self.assertEqual(_library.cagzhomul_schema(self.world, schema), 0)

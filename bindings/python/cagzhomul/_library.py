@@ -75,7 +75,7 @@ _FUNCTIONS: Dict[str, Tuple[Any, List[Any]]] = {
     "query": (_Queried, [_WORLD, _NUMBER, _LEASE, *_CODE, _HELD]), "query_page": (_Paged, [_WORLD, _NUMBER, _LEASE, *_CODE, _HELD]),
     "snapshot": (_STATUS, [_WORLD, _NUMBER, _LEASE, _SNAPSHOT]), "snapshot_check": (_Checked, [_SNAPSHOT]),
     "snapshot_query": (_Queried, [_SNAPSHOT, *_CODE, _HELD]), "snapshot_query_page": (_Paged, [_SNAPSHOT, *_CODE, _HELD]),
-    "schema": (_STATUS, [_WORLD, _HELD]), "plan": (_Outcome, [_WORLD, *_CODE, *_CODE]), "publish": (_Changed, [_WORLD, _NUMBER, *_CODE]),
+    "schema": (_STATUS, [_WORLD, _HELD]), "plan": (_Outcome, [_WORLD, *_CODE, *_CODE]), "plan_step": (_Outcome, [*_CODE, _SIZE, *_CODE]), "publish": (_Changed, [_WORLD, _NUMBER, *_CODE]),
     "begin_reorg": (_Changed, [_WORLD, _NUMBER, _SMALL, _SMALL]), "progress": (_Progressed, [_WORLD, _SMALL]),
     "advance": (_Advanced, [_WORLD, _NUMBER, _SMALL, _SMALL]), "due_entry": (_Advanced, [_WORLD, _NUMBER, _SMALL, _SMALL, _HELD]),
     "read_piece": (_STATUS, [_WORLD, _SMALL, _SMALL, _SMALL, _PIECE]), "prepare_piece": (_STATUS, [_PIECE, _PREPARED]), "commit_piece": (_Pieced, [_WORLD, _NUMBER, _PREPARED]),

@@ -5,8 +5,8 @@
 
 mod changes;
 mod closes;
+mod codes;
 mod faults;
-mod files;
 mod layer;
 mod logs;
 mod pages;

@@ -68,13 +68,18 @@ fn is_no_bit_flipped(alloc: Global, bytes: &mut Vec<u8>, at: usize) -> bool {
     true
 }
 
+// Whether the bytes before this place alone are refused.
+fn is_cut_refused(alloc: Global, bytes: &[u8], at: usize) -> bool {
+    at <= bytes.len() && is_refused(alloc, &bytes[..at], wanted_at(at))
+}
+
 fn are_damaged_refused(alloc: Global) -> bool {
     let Some(mut bytes) = worked(alloc) else {
         return false;
     };
     for at in 0..bytes.len() {
         if !is_no_bit_flipped(alloc, &mut bytes, at)
-            || !is_refused(alloc, &bytes.as_slice()[..at], wanted_at(at))
+            || !is_cut_refused(alloc, bytes.as_slice(), at)
         {
             return false;
         }

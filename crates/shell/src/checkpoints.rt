@@ -2,6 +2,7 @@
 ghost use Rattle.std.specs.Prelude.{⊤};
 
 use checkpoint_code::{HeadFault, PageFault};
+use digested_bytes::{Contents, contents_of};
 use prompt::Files;
 use saved_world::{LoadFault, LoadedFault, load, save};
 use std::fs::{File, Permissions};
@@ -126,6 +127,13 @@ fn load_status(fault: LoadedFault) -> u8 {
     }
 }
 
+// Says of saved bytes without a digest that damage to them may go unseen.
+fn report_form(rt: &HostRuntime, name: &str, bytes: &[u8]) {
+    if matches!(contents_of(bytes), Contents::Plain) {
+        let _ = eprintln!(rt; "remark: {name}: it has no digest, as files of releases before 2.1, so damage to it may go unseen; `save` writes one that has");
+    }
+}
+
 /// The checkpoint in a file; or else the exit status, after standard error has why.
 pub fn checkpoint_in(rt: &HostRuntime, name: &str) -> Result<Checkpoint, u8> {
     let bytes = match fs::read(rt, name) {
@@ -136,7 +144,10 @@ pub fn checkpoint_in(rt: &HostRuntime, name: &str) -> Result<Checkpoint, u8> {
         }
     };
     match load(rt.alloc(), bytes.as_slice()) {
-        Ok(checkpoint) => Ok(checkpoint),
+        Ok(checkpoint) => {
+            report_form(rt, name, bytes.as_slice());
+            Ok(checkpoint)
+        }
         Err(fault) => {
             let status = load_status(fault);
             let what = if status == NO_MEMORY {

@@ -1,9 +1,6 @@
-//! Calls on files of a store: the form of saved bytes, and the records of a log file. No call keeps
-//! anything.
-#![tactic(auto)]
-
+//! The form of saved bytes, and the records of a log file.
 ghost use Rattle.std.specs.Prelude.{◌≡◌};
-ghost use Rattle.file_calls.specs.Files.{FindsEntry, HasForm, ShowsRecord};
+ghost use Rattle.code_calls.specs.Files.{FindsEntry, HasForm, ShowsRecord};
 
 use digested_bytes::{Contents, contents_of, entry_in, record_of};
 use handles::{Outcome, lay};
