@@ -151,16 +151,18 @@ cagzhomul_layered cagzhomul_layer_piece(const uint8_t *reorg, size_t reorg_lengt
                                         size_t pairs_length, uint8_t *out, size_t out_length);
 
 /* Says what is due of a change, by the control records alone: a begin first, and before it the
- * close that it waits for; then the next step, if all that it needs has ended; then a piece. No
- * server keeps a plan's state: any may do the next act, and one finishes what another began.
+ * close that it waits for; then the next step, if all that it needs has ended; then a piece. Of
+ * several begins it is that of the lowest element, and of several pieces the first that has not
+ * ended of the first reorganisation that has one. No server keeps a plan's state: any may do the
+ * next act, and one finishes what another began.
  * `before` is the number of the version before the newest, 0 if that is the first, and `version`
  * the record of the newest; `found` has the keys and records of all versions, begun reorganisations
  * and cursors, by rising key, as they were at one moment (of a version the key alone is read);
  * `plan` is the code of a plan, of which so many steps have been published. A plan without steps
  * leaves what has begun to be completed.
- * CAGZHOMUL_OK. Refusals: CAGZHOMUL_BAD_CODE; CAGZHOMUL_BAD_PIECE if a piece has no cursor, since
- * the records were not read at one moment; CAGZHOMUL_NOT_WANTED if the next step needs what no
- * element wants; CAGZHOMUL_OUT_OF_MEMORY, which may come in place of any. */
+ * CAGZHOMUL_OK. Refusals: CAGZHOMUL_BAD_CODE; CAGZHOMUL_BAD_PIECE if the piece that would be given
+ * has no cursor, since the records were not read at one moment; CAGZHOMUL_NOT_WANTED if the next
+ * step needs what no element wants; CAGZHOMUL_OUT_OF_MEMORY, which may come in place of any. */
 cagzhomul_due cagzhomul_layer_due(uint32_t before, const uint8_t *version, size_t version_length,
                                   const uint8_t *found, size_t found_length, const uint8_t *plan,
                                   size_t plan_length, uint64_t published);

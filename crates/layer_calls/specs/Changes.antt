@@ -8,7 +8,7 @@ use Rattle.schema_version.specs.declared.step.Move.{Move}
 use Rattle.schema_version.specs.declared.element.ElementDef.{ElementDef}
 use Rattle.schema_version.specs.declared.element.Work.{Work}
 use Rattle.drafts.specs.Begin.{IsWanted}
-use Rattle.drafts.specs.Calls.{close_draft, publish_draft, divide_draft, IsPublication, IsDivision}
+use Rattle.drafts.specs.Calls.{Close, Divide, Publish}
 use Rattle.drafts.specs.Divide.{division, DivideRefusal}
 use Rattle.drafts.specs.declared.divide.DivideFault.{DivideFault}
 use Rattle.drafts.specs.declared.divide.DivideFault.TheVariants.{NotWanted, TooManyPieces, BadKey, Memory as OutOfMemory}
@@ -17,12 +17,12 @@ use Rattle.drafts.specs.declared.newest.Newest.{Newest}
 use Rattle.drafts.specs.declared.record.Reorg.{Reorg}
 use Rattle.drafts.specs.declared.publish.PublishFault.{PublishFault}
 use Rattle.drafts.specs.declared.publish.PublishFault.TheVariants.{VersionsSpent, Step, Unfinished, Memory}
-use Rattle.record_code.specs.Drafts.{draft_code}
 use Rattle.handles.specs.Changes.{step_refusal}
 use Rattle.handles.specs.Plans.{PlansCode}
 use Rattle.handles.specs.Bounded.{IsNoCode}
 use Rattle.handles.specs.Statuses.{bad_code, bad_count, bad_piece, not_wanted, out_of_memory, unfinished, versions_spent}
-use Rattle.layer_calls.specs.Given.{alone, numbered, Answer, Replies, AreRising, IsReorg, reorg_code}
+use Rattle.layer_calls.specs.Drafted.{IsDraftOf}
+use Rattle.layer_calls.specs.Given.{alone, numbered, Answer, AreRising, IsReorg, reorg_code}
 use Rattle.layer_calls.specs.declared.outcome.LayerOutcome.{LayerOutcome}
 
 abbrev pub newest_of : ℕ → Version → Newest
@@ -64,11 +64,11 @@ publish_refusal Memory = alone out_of_memory
 
 -- the draft of the step, or its refusal
 abbrev pub Publishes : Newest → List Move → List Reorg → Answer → Type 0
-Publishes newest step found (Ok reply) = IsPublication (publication newest step found) × Replies (draft_code (publish_draft (publication newest step found))) reply
+Publishes newest step found (Ok reply) = IsDraftOf (Publish (publication newest step found)) reply
 Publishes newest step found (Err outcome) = (outcome ≡ alone out_of_memory) ⊎ ((fault : PublishFault) × PublishRefusal newest step found fault × (outcome ≡ publish_refusal fault))
 
 abbrev pub Closes : Newest → Answer → Type 0
-Closes newest (Ok reply) = Replies (draft_code (close_draft newest)) reply
+Closes newest (Ok reply) = IsDraftOf (Close newest) reply
 Closes newest (Err outcome) = outcome ≡ alone out_of_memory
 
 -- what a begin that is not drafted is reported as
@@ -81,6 +81,6 @@ divide_refusal OutOfMemory = alone out_of_memory
 -- the draft of the begin at these keys, or its refusal
 abbrev pub Begins : Newest → ℕ → List Bytes → Answer → Type 0
 Begins newest element keys (Ok reply) =
-    (found : ElementDef) × (work : Work) × IsWanted newest element found work × IsDivision (division newest found work keys) × Replies (draft_code (divide_draft (division newest found work keys))) reply
+    (found : ElementDef) × (work : Work) × IsWanted newest element found work × IsDraftOf (Divide (division newest found work keys)) reply
 Begins newest element keys (Err outcome) =
     (outcome ≡ alone out_of_memory) ⊎ ((fault : DivideFault) × DivideRefusal newest element keys fault × (outcome ≡ divide_refusal fault))

@@ -12,7 +12,7 @@ use Rattle.schema_version.specs.declared.step.Move.{Move}
 use Rattle.drafts.specs.declared.newest.Newest.{Newest}
 use Rattle.drafts.specs.declared.record.Reorg.{Reorg}
 use Rattle.drafts.specs.Store.{Key, version_key, reorg_key, cursor_key, mark_key}
-use Rattle.layer_due.specs.Due.{IsDue, IsStuck}
+use Rattle.layer_due.specs.Due.{IsDue, IsStuck, ComesFirst, FailsFirst}
 use Rattle.layer_due.specs.declared.act.Act.{Act}
 use Rattle.layer_due.specs.declared.act.Act.TheVariants as act
 use Rattle.layer_due.specs.declared.act.DueFault.{DueFault}
@@ -39,12 +39,12 @@ with_reorg records reorg = record records { reorgs = records.reorgs ++ reorg ∷
 abbrev pub with_cursor : Records → Cursor → Records
 with_cursor records cursor = record records { cursors = records.cursors ++ cursor ∷ [] }
 
--- a pair is the key and the record of a reorganisation or a cursor, or the key of a version
+-- a pair is the key and the record of a reorganisation or a cursor, or the key of a version; the numbers of keys are within their types, so the bytes say which
 abbrev pub IsAdded : Bytes × Bytes → Records → Records → Type 0
 IsAdded pair old new =
-    ((number : ℕ) × (pair.0 ≡ key_code (version_key number)) × (new ≡ seen old number))
-    ⊎ (((element : ℕ) × (reorg : Reorg) × (pair.0 ≡ key_code (reorg_key element)) × IsReorg reorg × (pair.1 ≡ reorg_code reorg) × (new ≡ with_reorg old reorg))
-    ⊎ ((cursor : Cursor) × (pair.0 ≡ key_code (cursor_key cursor.element cursor.piece)) × IsCursor cursor.key × (pair.1 ≡ cursor_code cursor.key) × (new ≡ with_cursor old cursor)))
+    ((number : ℕ) × IsKey (version_key number) × (pair.0 ≡ key_code (version_key number)) × (new ≡ seen old number))
+    ⊎ (((element : ℕ) × (reorg : Reorg) × IsKey (reorg_key element) × (pair.0 ≡ key_code (reorg_key element)) × IsReorg reorg × (pair.1 ≡ reorg_code reorg) × (new ≡ with_reorg old reorg))
+    ⊎ ((cursor : Cursor) × IsKey (cursor_key cursor.element cursor.piece) × (pair.0 ≡ key_code (cursor_key cursor.element cursor.piece)) × IsCursor cursor.key × (pair.1 ≡ cursor_code cursor.key) × (new ≡ with_cursor old cursor)))
 
 abbrev pub AreAdded : List (Bytes × Bytes) → Records → Records → Type 0
 AreAdded [] old new = new ≡ old
@@ -55,8 +55,8 @@ abbrev pub IsUnknown : Bytes × Bytes → Type 0
 IsUnknown pair =
     ((key : Key) → IsKey key → pair.0 ≢ key_code key)
     ⊎ (((name : Bytes) × (pair.0 ≡ key_code (mark_key name)))
-    ⊎ (((element : ℕ) × (pair.0 ≡ key_code (reorg_key element)) × IsNoCode IsReorg reorg_code pair.1)
-    ⊎ ((element : ℕ) × (piece : ℕ) × (pair.0 ≡ key_code (cursor_key element piece)) × IsNoCode IsCursor cursor_code pair.1)))
+    ⊎ (((element : ℕ) × IsKey (reorg_key element) × (pair.0 ≡ key_code (reorg_key element)) × IsNoCode IsReorg reorg_code pair.1)
+    ⊎ ((element : ℕ) × (piece : ℕ) × IsKey (cursor_key element piece) × (pair.0 ≡ key_code (cursor_key element piece)) × IsNoCode IsCursor cursor_code pair.1)))
 
 abbrev pub HasUnknown : List (Bytes × Bytes) → Type 0
 HasUnknown [] = ⊥
@@ -86,8 +86,8 @@ stuck_outcome (fault.NoCursor element piece) = alone bad_piece
 stuck_outcome fault.NotReady = alone not_wanted
 
 abbrev pub DueBy : Records → List (List Move) → Result Act LayerOutcome → Type 0
-DueBy records steps (Ok due) = IsDue records steps due
-DueBy records steps (Err outcome) = (why : DueFault) × IsStuck records steps why × (outcome ≡ stuck_outcome why)
+DueBy records steps (Ok due) = IsDue records steps due × ComesFirst records due
+DueBy records steps (Err outcome) = (why : DueFault) × IsStuck records steps why × FailsFirst records why × (outcome ≡ stuck_outcome why)
 
 -- the act that is due by the records, and by the steps of the plan after so many
 abbrev pub DueFrom : ℕ → Bytes → Bytes → Bytes → ℕ → Result Act LayerOutcome → Type 0

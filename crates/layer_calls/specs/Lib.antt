@@ -1,4 +1,5 @@
 pub mod Given
+pub mod Drafted
 pub mod Show
 pub mod Opening
 pub mod Txns

@@ -11,12 +11,12 @@ use Rattle.reorganise.specs.declared.read.Reading.{Reading}
 use Rattle.reorganise.specs.declared.work.Progress.{Progress}
 use Rattle.reorganise.specs.declared.work.Span.{Span}
 use Rattle.row_map.specs.Rows.{Bytes, Pairs}
-use Rattle.drafts.specs.Calls.{piece_draft, IsWorking}
+use Rattle.drafts.specs.Calls.{Piece}
 use Rattle.drafts.specs.Made.{working}
 use Rattle.drafts.specs.declared.record.Reorg.{Reorg}
-use Rattle.record_code.specs.Drafts.{draft_code}
 use Rattle.handles.specs.Statuses.{bad_count, bad_piece, out_of_memory, spent}
-use Rattle.layer_calls.specs.Given.{alone, Answer, Replies}
+use Rattle.layer_calls.specs.Drafted.{IsDraftOf}
+use Rattle.layer_calls.specs.Given.{alone, Answer}
 
 -- ---- a piece that has come to its cursor
 
@@ -59,7 +59,7 @@ IsNextPart progress pairs piece cursor high to found =
 -- ---- the draft
 
 abbrev pub PiecesOf : List (Bytes × Bytes) → Reading → Answer → Type 0
-PiecesOf bounds read (Ok reply) = IsWorking (working read bounds) × Replies (draft_code (piece_draft (working read bounds))) reply
+PiecesOf bounds read (Ok reply) = IsDraftOf (Piece (working read bounds)) reply
 PiecesOf bounds read (Err outcome) =
     (outcome ≡ alone out_of_memory) ⊎ ((outcome ≡ alone bad_piece) × (slice_get bounds read.piece ≢ Some (read.low, read.high)))
 

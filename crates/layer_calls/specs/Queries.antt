@@ -52,6 +52,6 @@ AsksRows version query read (Err outcome) = IsQueryRefusal version query outcome
 -- of each store, consistent with the version, of which all that the query needs was read: the plain answer over its rows
 abbrev pub Answers : Version → Query → Pairs → Answer → Type 0
 Answers version query read (Ok reply) =
-    IsSound version query
+    IsSound version query × (reply.number ≡ 0)
     × ((rows : Rows) (store : Pairs) → IsConsistent version rows store → IsAllRead store read query (remaining_of version query) → reply.code ≡ rows_code (plain_answer (visible_rows version rows) query))
 Answers version query read (Err outcome) = IsQueryRefusal version query outcome

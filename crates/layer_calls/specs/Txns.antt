@@ -18,13 +18,13 @@ use Rattle.row_write.specs.declared.fault.RowFault.TheVariants.{Duplicate, NoRow
 use Rattle.row_write.specs.declared.op.RowOp.{RowOp}
 use Rattle.row_write.specs.declared.op.RowOutcome.TheVariants.{Refused as NotDone}
 use Rattle.schema_version.specs.Version.{Version}
-use Rattle.drafts.specs.Calls.{txn_draft, IsTxn}
+use Rattle.drafts.specs.Calls.{Transact}
 use Rattle.drafts.specs.Marked.{MarkedTxn}
 use Rattle.drafts.specs.Txn.{IsTxnOf}
-use Rattle.record_code.specs.Drafts.{draft_code}
 use Rattle.handles.specs.Prepare.{prepare_outcome}
 use Rattle.handles.specs.Statuses.{duplicate, no_row, out_of_memory}
-use Rattle.layer_calls.specs.Given.{alone, numbered, Answer, Replies}
+use Rattle.layer_calls.specs.Drafted.{IsDraftOf}
+use Rattle.layer_calls.specs.Given.{alone, numbered, Answer}
 use Rattle.layer_calls.specs.declared.outcome.LayerOutcome.{LayerOutcome}
 
 -- ---- reads
@@ -61,7 +61,7 @@ mark_of (byte ∷ bytes) = Some (byte ∷ bytes)
 -- the draft of these operations under the version on what was read; or the first refusal of their preparation, or the first operation that the rows refuse
 abbrev pub Drafts : ℕ → Bytes → Version → List RowOp → View → Answer → Type 0
 Drafts number mark schema ops view (Ok reply) =
-    (draft : MarkedTxn) × IsTxn draft.txn × IsTxnOf number schema ops (mark_of mark) view draft × Replies (draft_code (txn_draft draft.txn draft.mark)) reply
+    (draft : MarkedTxn) × IsTxnOf number schema ops (mark_of mark) view draft × IsDraftOf (Transact draft.txn draft.mark) reply
 Drafts number mark schema ops view (Err outcome) =
     (outcome ≡ alone out_of_memory)
     ⊎ ((fault : PrepareFault) × IsRefusal rank (Condition schema ops view) Memory fault × (outcome ≡ prepare_refusal fault))

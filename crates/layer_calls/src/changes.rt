@@ -94,6 +94,7 @@ fn publish_refusal(fault: PublishFault) -> LayerOutcome
 }
 
 // The draft of a step.
+#[tactic(auto, using(crate::proofs::Fits::fit_by))]
 fn publish_step(
     alloc: Global,
     newest: &Newest,
@@ -136,6 +137,7 @@ pub fn publish(
 }
 
 // The draft of a close.
+#[tactic(auto, using(crate::proofs::Fits::fit_by))]
 fn close_before(alloc: Global, newest: &Newest) -> Result<LayerReply, LayerOutcome>
     ensures { Closes newest.now result }
 {
@@ -169,6 +171,7 @@ fn divide_refusal(fault: DivideFault) -> LayerOutcome
 }
 
 // The draft of a begin.
+#[tactic(auto, using(crate::proofs::Fits::fit_by))]
 fn begin_at(
     alloc: Global,
     newest: &Newest,

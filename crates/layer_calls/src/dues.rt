@@ -203,7 +203,8 @@ fn due_outcome(answer: &Result<Act, LayerOutcome>) -> DueOutcome
 /// What is due of a change, by the control records alone: the act that any server may do next, as
 /// `layer_due::due` gives it. At `OK` the `act` is 0 if nothing is due, 1 to begin the fill or the clear
 /// of the `element`, 2 to close the version before the newest, 3 to publish the next step of the plan, and
-/// 4 to work on the `piece` of the `element`.
+/// 4 to work on the `piece` of the `element`. Of several begins that of the lowest element is given, and
+/// of several pieces the first that has not ended of the first reorganisation that has one.
 ///
 /// - `before`: the number of the version before the newest; 0 if that is the first.
 /// - `version`: the record of the newest.
@@ -214,8 +215,9 @@ fn due_outcome(answer: &Result<Act, LayerOutcome>) -> DueOutcome
 /// - `published`: how many of its steps have been published.
 ///
 /// Refused, in this order: `BAD_CODE` if the record, a pair that was found or the plan is none;
-/// `BAD_PIECE` if a piece has no cursor, since the records were not read at one moment; `NOT_WANTED` if
-/// the step needs what no element wants; `OUT_OF_MEMORY`, which may come in place of any.
+/// `BAD_PIECE` if the piece that would be given has no cursor, since the records were not read at one
+/// moment; `NOT_WANTED` if the step needs what no element wants; `OUT_OF_MEMORY`, which may come in place
+/// of any.
 pub fn due(
     alloc: Global,
     before: u32,

@@ -111,6 +111,7 @@ fn next_part(
 }
 
 // The code of the draft of what was read.
+#[tactic(auto, using(crate::proofs::Fits::fit_by))]
 fn draft_of(alloc: Global, reorg: &Reorg, read: PieceView) -> Result<LayerReply, LayerOutcome>
     ensures { PiecesOf reorg.now.bounds read result }
 {

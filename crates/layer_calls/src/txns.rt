@@ -1,7 +1,7 @@
 //! Transactions: which keys to read, and the draft of what was read.
 ghost use Rattle.std.specs.Prelude.{◌≡◌, IfOk, OnOk};
 ghost use Rattle.drafts.specs.Calls.{txn_draft, IsTxn};
-ghost use Rattle.record_code.specs.Drafts.{draft_code};
+ghost use Rattle.record_code.specs.Drafts.{draft_code, IsFitDraft};
 ghost use Rattle.layer_calls.specs.Given.{With, Replies, IsVersion, version_code, GivesVersion, GivesOps, GivesView};
 ghost use Rattle.std.specs.FinMap as map;
 ghost use Rattle.layer_calls.specs.Txns.{missing, prepare_refusal as prepare_refusal_of, row_refusal as row_refusal_of, Wants, mark_of as mark_named, Drafts};
@@ -94,6 +94,7 @@ fn draft_reply(alloc: Global, draft: &TxnDraft, version: &[u8]) -> Result<LayerR
     requires known { IsVersion draft.now.txn.schema }
     requires spelled { version.now ≡ version_code draft.now.txn.schema }
     ensures made { OnOk result (IsTxn draft.now.txn) }
+    ensures fit { OnOk result (IsFitDraft (txn_draft draft.now.txn draft.now.mark)) }
     ensures code { IfOk result (λ reply. Replies (draft_code (txn_draft draft.now.txn draft.now.mark)) reply) }
 {
     draft.lemma_drafted();

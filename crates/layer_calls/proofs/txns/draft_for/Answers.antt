@@ -8,9 +8,8 @@ pub returns-in-Ok-Draft : goal.returns-in-Ok-Draft
 returns-in-Ok-Draft c =
     let drafted = subst (λ (d : Drafted). IsDraftedFor c.args.number c.args.schema c.args.ops c.in_ok-mark.mark c.args.view d) c.in-Ok-Draft.field-0-is c.in-Ok-Draft.ensures.drafted in (
       c.in-Ok-Draft.draft,
-      c.in_ok-draft_reply-in-Ok-Draft.ensures.made,
       subst (λ (mark : Option Bytes). IsTxnOf c.args.number c.args.schema c.args.ops mark c.args.view c.in-Ok-Draft.draft) c.in_ok-mark.ensures drafted,
-      c.in_ok-draft_reply-in-Ok-Draft.ensures.code,
+      record { drafted = c.in_ok-draft_reply-in-Ok-Draft.ensures.made; fit = c.in_ok-draft_reply-in-Ok-Draft.ensures.fit; replies = c.in_ok-draft_reply-in-Ok-Draft.ensures.code },
     )
 
 pub returns-in-Ok-Refused : goal.returns-in-Ok-Refused
