@@ -130,7 +130,9 @@ fn load_status(fault: LoadedFault) -> u8 {
 // Says of saved bytes without a digest that damage to them may go unseen.
 fn report_form(rt: &HostRuntime, name: &str, bytes: &[u8]) {
     if matches!(contents_of(bytes), Contents::Plain) {
-        let _ = eprintln!(rt; "remark: {name}: it has no digest, as files of releases before 2.1, so damage to it may go unseen; `save` writes one that has");
+        let _ = eprintln!(rt;
+            "remark: {name}: it has no digest, as files of releases before 2.1, so damage to it may go unseen; `save` writes one that has"
+        );
     }
 }
 
