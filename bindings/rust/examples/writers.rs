@@ -2,7 +2,7 @@
 //! What it prints does not depend on how the threads are scheduled.
 
 use cagzhomul::Type::{Int, Text};
-use cagzhomul::{retry, Db, Error, Lease, Query, Receipt, Step, Table};
+use cagzhomul::{Db, Error, Query, Step, Table};
 use std::sync::atomic::{AtomicU64, Ordering};
 use std::thread;
 
@@ -19,22 +19,12 @@ fn now() -> u64 {
     CLOCK.load(Ordering::Relaxed)
 }
 
-fn insert(lease: &Lease<'_>, id: u64) -> Result<Receipt, Error> {
-    let town = TOWNS[id as usize % TOWNS.len()];
-    let insert = || lease.txn().insert("people", id as i64, [("town", town)]);
-    retry(3, || insert().commit(now()))
-}
-
-/// Inserts every fourth row, under a new lease whenever the last one has ended.
+/// Inserts every fourth row, under leases that the store takes: a new one whenever the last has ended.
 fn write_rows(db: &Db, writer: u64) -> Result<(), Error> {
-    let mut lease = db.lease(now())?;
+    let runs = db.runs(now);
     for id in (writer..ROWS).step_by(WRITERS as usize) {
-        while let Err(error) = insert(&lease, id) {
-            match error {
-                Error::LeaseEnded { .. } => lease = db.lease(now())?,
-                other => return Err(other),
-            }
-        }
+        let town = TOWNS[id as usize % TOWNS.len()];
+        runs.write(|txn| txn.insert("people", id as i64, [("town", town)]))?;
         INSERTED.fetch_add(1, Ordering::Relaxed);
     }
     Ok(())

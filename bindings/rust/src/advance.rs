@@ -1,8 +1,9 @@
 //! What is due of the schema changes under way, and the calls that do it.
 
 use crate::error::Error;
+use crate::fetch::bytes_of;
 use crate::ffi::{self, BytesHandle};
-use crate::session::{bytes_of, Session};
+use crate::session::Session;
 
 /// How a step of the changes under way went.
 #[derive(Debug, Clone, Copy, PartialEq, Eq, Hash)]
@@ -67,7 +68,7 @@ impl Session {
         if advanced.status == ffi::OK {
             self.published();
             let length = world.log_length().length as u64;
-            self.grown(&mut world, length);
+            self.grown(&mut world, length, now);
         }
         match advanced.status {
             ffi::OK => Ok(Some(Step::Acted)),

@@ -2,11 +2,14 @@
 
 use crate::advance::{Due, Step};
 use crate::code::{self, Code};
+use crate::course::Ends;
 use crate::db::Db;
 use crate::error::Error;
+use crate::fetch::fetch;
 use crate::names::Names;
 use crate::plan::{number_of, plan_refusal, SchemaChange};
-use crate::session::{fetch, Session};
+use crate::schema::Schema;
+use crate::session::Session;
 use crate::steps::steps_of;
 use crate::wanted::Wanted;
 use crate::words::is_list;
@@ -31,7 +34,13 @@ pub struct Change<'db, C> {
     first: Option<Step>,
     /// The moment for which the last step waits.
     until: u64,
+    /// By how many moments the clock was behind the world's last one at that step.
+    behind: u64,
     is_ended: bool,
+    /// What ends it before.
+    pub(crate) ends: Ends<'db>,
+    /// The schema before its first step, if it is known.
+    pub(crate) before: Option<Schema>,
 }
 
 impl<'db, C: FnMut() -> u64> Change<'db, C> {
@@ -44,7 +53,10 @@ impl<'db, C: FnMut() -> u64> Change<'db, C> {
             limit: 1000,
             first,
             until: 0,
+            behind: 0,
             is_ended: false,
+            ends: Ends::default(),
+            before: None,
         }
     }
 
@@ -57,8 +69,41 @@ impl<'db, C: FnMut() -> u64> Change<'db, C> {
         if matches!(change, Wanted::Words(words) if is_list(words)) {
             return Err(Error::BadLine);
         }
-        let first = db.begin_change(change, clock())?;
-        Ok(Change::new(db, clock, Some(first)))
+        let (now, before) = (clock(), db.session().schema().ok());
+        let first = db.begin_change(change, now)?;
+        let mut steps = Change::new(db, clock, Some(first));
+        (steps.before, steps.behind) = (before, steps.behind_at(first, now));
+        Ok(steps)
+    }
+
+    pub(crate) fn db(&self) -> &'db Db {
+        self.db
+    }
+
+    /// By how many moments the clock was behind the world's last one, if the last step is a
+    /// [`Step::Waiting`], or else 0: so one that began anew with the machine is noticed, and
+    /// [`Db::clock`] is never behind.
+    ///
+    /// ```
+    /// # use cagzhomul::{Db, Step, Table, Type};
+    /// # let db = Db::open([Table::new("t").key("id", Type::Int)])?;
+    /// db.lease(1_000)?;
+    /// let mut steps = db.change("add column a int on t", || 4)?; // at the moment 1,000
+    /// assert_eq!((steps.next(), steps.behind()), (Some(Ok(Step::Acted)), 0));
+    /// let mut steps = db.resume(|| 4);
+    /// assert_eq!((steps.next(), steps.behind()), (Some(Ok(Step::Waiting { until: 1_010 })), 996));
+    /// # Ok::<(), cagzhomul::Error>(())
+    /// ```
+    pub fn behind(&self) -> u64 {
+        self.behind
+    }
+
+    /// What [`Change::behind`] is after a step at this moment; 0 if memory runs out.
+    fn behind_at(&self, step: Step, now: u64) -> u64 {
+        match step {
+            Step::Acted => 0,
+            Step::Waiting { .. } => self.db.session().behind(now).unwrap_or(0),
+        }
     }
 
     /// In how many pieces a reorganisation is begun: 1 to 64, and 8 if nothing else is said. Each
@@ -93,12 +138,13 @@ impl<'db, C: FnMut() -> u64> Change<'db, C> {
         self
     }
 
-    /// The moment, once it is that for which the last step waits.
-    fn arrived(&mut self) -> u64 {
+    /// The moment, once it is that for which the last step waits, unless the steps are to end before.
+    fn arrived(&mut self) -> Result<u64, Error> {
         loop {
+            self.ends.check(self.db, &mut self.clock)?;
             let now = (self.clock)();
             if now >= self.until {
-                return now;
+                return Ok(now);
             }
             thread::sleep(PAUSE);
         }
@@ -106,13 +152,14 @@ impl<'db, C: FnMut() -> u64> Change<'db, C> {
 
     /// Does what is due at the present moment; `None` if no change is under way.
     fn step(&mut self) -> Result<Option<Step>, Error> {
-        match self.first.take() {
-            None => {
-                let now = self.arrived();
-                self.db.session().advance(now, self.pieces, self.limit)
-            }
-            first => Ok(first),
+        if let Some(first) = self.first.take() {
+            return Ok(Some(first));
         }
+        let now = self.arrived()?;
+        let session = self.db.session();
+        let step = session.advance(now, self.pieces, self.limit)?;
+        self.behind = self.behind_at(step.unwrap_or(Step::Acted), now);
+        Ok(step)
     }
 }
 
@@ -170,6 +217,12 @@ impl Db {
 }
 
 impl Session {
+    /// The words of the change that waits for its first step.
+    pub(crate) fn waiting_words(&self) -> Option<String> {
+        let waiting = self.waiting.lock().unwrap_or_else(PoisonError::into_inner);
+        waiting.as_ref().map(|change| change.words.clone())
+    }
+
     /// Publishes the first step of the change that waits; `None` if none does.
     pub(crate) fn begin_waiting(&self, now: u64) -> Result<Option<Step>, Error> {
         let mut waiting = self.waiting.lock().unwrap_or_else(PoisonError::into_inner);
@@ -214,6 +267,7 @@ impl Session {
         match number_of(world.publish(now, &first.code)) {
             Ok(_) => {
                 self.published();
+                self.reached(now);
                 Ok(Step::Acted)
             }
             Err(Error::TooEarly { until }) => Ok(Step::Waiting { until }),

@@ -3,20 +3,19 @@
 use crate::advance::{Due, Step};
 use crate::change::Change;
 use crate::error::Error;
-use crate::ffi::LeaseHandle;
 use crate::lease::{Grant, Lease, Store};
 use crate::names::Names;
 use crate::open::OpenOptions;
 use crate::plan::SchemaChange;
 use crate::query::Query;
 use crate::rows::Row;
-use crate::session::{bytes_given, done, Session};
+use crate::session::Session;
 use crate::snapshot::Check;
 use crate::table::Table;
 use crate::wanted::Wanted;
-use std::sync::{Arc, Mutex, PoisonError};
+use std::sync::{Arc, Mutex};
 
-/// How many moments a lease lasts if nothing else is said.
+/// How many moments of your clock a lease lasts if nothing else is said: milliseconds with [`Db::clock`].
 pub const DEFAULT_LEASE_LENGTH: u64 = 10;
 
 /// How many of the last entries of its log a store keeps in memory, if nothing else is said.
@@ -25,9 +24,10 @@ pub const DEFAULT_KEEP: u64 = 10_000;
 /// A store of tables, in memory, whose indexes and columns come and go while transactions run.
 ///
 /// Any number of threads may share it: a lock has one call at a time, and transactions are made and
-/// prepared outside it. Moments (`now`) are numbers of the caller's clock; one that is below the
-/// moment of the last entry of the log counts as that, and [`OpenOptions::furthest_jump`] refuses
-/// those that are too far after it.
+/// prepared outside it. Moments (`now`) are numbers of the caller's clock, as [`Db::clock`]; one that
+/// is below the moment of the last entry of the log counts as that, and
+/// [`OpenOptions::furthest_jump`] refuses those that are too far after it. [`Db::run`], [`Db::write`],
+/// [`Db::modify`] and [`Db::query`] go under a lease that it takes, and renews, by itself.
 ///
 /// ```
 /// use cagzhomul::{Db, Table};
@@ -50,21 +50,22 @@ pub const DEFAULT_KEEP: u64 = 10_000;
 #[derive(Debug)]
 pub struct Db {
     session: Session,
-    names: Mutex<Arc<Names>>,
-    /// The lease of [`Db::query`]. Its lock is taken before that of the session.
-    kept: Mutex<Option<Arc<Grant>>>,
+    pub(crate) names: Mutex<Arc<Names>>,
+    /// The lease of [`Db::query`] and [`Db::run`]. Its lock is taken before that of the session.
+    pub(crate) kept: Mutex<Option<Arc<Grant>>>,
 }
 
 impl Db {
-    /// Opens a store with these tables, whose leases last [`DEFAULT_LEASE_LENGTH`] moments.
+    /// Opens a store with these tables, whose leases last [`DEFAULT_LEASE_LENGTH`] moments of your clock.
     ///
     /// Refusals: those of [`Db::with_lease_length`].
     pub fn open(tables: impl IntoIterator<Item = Table>) -> Result<Db, Error> {
         Db::with_lease_length(DEFAULT_LEASE_LENGTH, tables)
     }
 
-    /// Opens a store with these tables. A lease lasts `lease_length` moments, from 1 to 2^32, and
-    /// each version stays the newest for as long. [`OpenOptions`] can also give it a furthest jump.
+    /// Opens a store with these tables. A lease lasts `lease_length` moments of your clock, which are
+    /// milliseconds with [`Db::clock`], from 1 to 2^32, and each version stays the newest for as long.
+    /// [`OpenOptions`] can also give it a furthest jump.
     ///
     /// Refusals: [`Error::BadTable`], [`Error::BadLength`], [`Error::OutOfMemory`].
     ///
@@ -156,7 +157,8 @@ impl Db {
     /// # Ok::<(), cagzhomul::Error>(())
     /// ```
     pub fn lease(&self, now: u64) -> Result<Lease<'_>, Error> {
-        Ok(Lease::new(Store::Borrowed(self), self.grant(now)?))
+        let grant = Arc::new(self.grant(now)?);
+        Ok(Lease::new(Store::Borrowed(self), grant))
     }
 
     /// Grants a lease as [`Db::lease`] does, which owns its share of the store: it may go to a thread, or
@@ -175,27 +177,8 @@ impl Db {
     /// # Ok::<(), cagzhomul::Error>(())
     /// ```
     pub fn lease_owned(self: &Arc<Self>, now: u64) -> Result<Lease<'static>, Error> {
-        Ok(Lease::new(Store::Owned(Arc::clone(self)), self.grant(now)?))
-    }
-
-    /// Grants a lease, with the names of its version.
-    fn grant(&self, now: u64) -> Result<Grant, Error> {
-        let mut lease = LeaseHandle::closed();
-        let mut world = self.session.world()?;
-        let granted = world.lease(now, &mut lease);
-        done(granted.status)?;
-        self.session.grown(&mut world, granted.place);
-        let mut names = self.names.lock().unwrap_or_else(PoisonError::into_inner);
-        if names.version() != granted.version {
-            let code = bytes_given(|code| lease.schema(code))?;
-            *names = Arc::new(Names::read(granted.version, code)?);
-        }
-        Ok(Grant::new(lease, granted, Arc::clone(&names)))
-    }
-
-    /// The names of the newest version that a lease was granted on, with those of all tables.
-    pub(crate) fn names(&self) -> Arc<Names> {
-        Arc::clone(&self.names.lock().unwrap_or_else(PoisonError::into_inner))
+        let grant = Arc::new(self.grant(now)?);
+        Ok(Lease::new(Store::Owned(Arc::clone(self)), grant))
     }
 
     /// The rows of a query, as [`Lease::query`] gives them, under a lease that the store keeps. It
@@ -230,19 +213,6 @@ impl Db {
             }
             found => found,
         }
-    }
-
-    /// The kept lease; or a new one, if that is the refused one, or is on an older version.
-    fn kept_lease(&self, now: u64, refused: Option<&Arc<Grant>>) -> Result<Arc<Grant>, Error> {
-        let mut kept = self.kept.lock().unwrap_or_else(PoisonError::into_inner);
-        if let Some(grant) = kept.take() {
-            let is_refused = refused.is_some_and(|lease| Arc::ptr_eq(lease, &grant));
-            if !is_refused && self.session.is_newest(grant.schema())? {
-                return Ok(Arc::clone(kept.insert(grant)));
-            }
-        }
-        let grant = Arc::new(self.grant(now)?);
-        Ok(Arc::clone(kept.insert(grant)))
     }
 
     /// The reply to any line of the script language, as text.

@@ -1,11 +1,15 @@
 //! Why a call was refused.
 
+use crate::course::NotCompleted;
 use crate::declarations::BadDeclaration;
 use crate::faults::WrongValue;
 use crate::ffi;
 use crate::layer::StoreError;
 use crate::value::RowKey;
 use std::fmt;
+
+/// What an [`Error::NotPublic`] says of a key column.
+const KEY_COLUMN: &str = ", which is a key column: each row found has it, and is found by its whole key, as `key = (1)` in words, or `Query::key`";
 
 /// Why a call was refused. A refused call changed nothing, except that [`Error::OutOfMemory`] over
 /// a line may close the session, and that after [`StoreError::Unknown`] nobody knows.
@@ -50,7 +54,8 @@ pub enum Error {
     NotPublic {
         /// Its name; `None` if the call names none that its table does not have.
         column: Option<String>,
-        /// Whether it is a key column, which is given by the key alone.
+        /// Whether it is a key column: it is in each row that is found, no update changes it, and a row
+        /// is found by the whole key: `key = (1)` in words, or [`Query::key`](crate::Query::key).
         is_key: bool,
     },
     /// A value of another type than its column, another number of values in a key, null in a key, a
@@ -104,6 +109,9 @@ pub enum Error {
         /// The change that waits.
         change: String,
     },
+    /// The steps of a [`Change`](crate::Change) ended before they were complete: the time has passed, or
+    /// they were cancelled. What is left is told, and [`Db::resume`](crate::Db::resume) goes on.
+    NotCompleted(Box<NotCompleted>),
     /// The newest version has not been it for a lease length.
     TooEarly {
         /// The moment from which on it will have been.
@@ -244,6 +252,7 @@ impl Error {
             Error::InChange => "an element that a change names is in change",
             Error::Limit => "a name, a list, a default or a count is over its limit",
             Error::StillWaiting { .. } => "another change still waits for its first step",
+            Error::NotCompleted(_) => "the change is not complete",
             Error::TooEarly { .. } => {
                 "the newest version has not been the newest for a full lease length"
             }
@@ -273,6 +282,7 @@ impl fmt::Display for Error {
         match self {
             Error::WrongType(Some(wrong)) => return wrong.fmt(f),
             Error::BadTable(Some(bad)) => return bad.fmt(f),
+            Error::NotCompleted(left) => return left.fmt(f),
             _ => f.write_str(self.text())?,
         }
         match self {
@@ -280,11 +290,7 @@ impl fmt::Display for Error {
                 column: Some(column),
                 is_key,
             } => {
-                let which = if *is_key {
-                    ", which is a key column"
-                } else {
-                    ""
-                };
+                let which = if *is_key { KEY_COLUMN } else { "" };
                 write!(f, ": {column}{which}")
             }
             Error::LeaseEnded { until, now } => write!(f, ": at {until}, and now is {now}"),
@@ -358,7 +364,8 @@ mod tests {
         );
         assert_eq!(
             not_public("id", true).to_string(),
-            "a named column is not a public column of its table: id, which is a key column"
+            "a named column is not a public column of its table: id, which is a key column: \
+             each row found has it, and is found by its whole key, as `key = (1)` in words, or `Query::key`"
         );
         let (until, now) = (15, 20);
         assert_eq!(

@@ -2,15 +2,17 @@
 
 use crate::db::Db;
 use crate::error::Error;
+use crate::fetch::{done, moment_of};
 use crate::ffi::{self, Granted, LeaseHandle, SnapshotHandle, WorldHandle};
 use crate::names::Names;
 use crate::pages::{find_page, KeyRange, Page};
+use crate::prepared::Receipt;
 use crate::query::{find, Query};
 use crate::rows::Row;
 use crate::schema::Schema;
-use crate::session::{done, moment_of, Session};
+use crate::session::Session;
 use crate::snapshot::Snapshot;
-use crate::txn::{Receipt, Txn};
+use crate::txn::Txn;
 use crate::value::{Cells, Key};
 use crate::wanted::Wanted;
 use std::fmt;
@@ -37,6 +39,11 @@ impl Grant {
     /// The schema of its version.
     pub(crate) fn schema(&self) -> &Schema {
         self.names.schema()
+    }
+
+    /// The moment at which it ends.
+    pub(crate) fn until(&self) -> u64 {
+        self.granted.until
     }
 
     /// The rows of a query of the store of this session under it. The store is locked while one row at
@@ -109,11 +116,11 @@ impl Deref for Store<'_> {
 /// A transaction finds its columns by the names that they have in this version.
 pub struct Lease<'db> {
     db: Store<'db>,
-    grant: Grant,
+    grant: Arc<Grant>,
 }
 
 impl<'db> Lease<'db> {
-    pub(crate) fn new(db: Store<'db>, grant: Grant) -> Lease<'db> {
+    pub(crate) fn new(db: Store<'db>, grant: Arc<Grant>) -> Lease<'db> {
         Lease { db, grant }
     }
 
@@ -192,20 +199,31 @@ impl<'db> Lease<'db> {
     ) -> Result<Option<Receipt>, Error> {
         let key = key.into();
         loop {
-            let mut txn = self.txn();
-            let row = txn.get(table, key.clone())?;
-            let Some(cells) = function(row.as_ref()) else {
-                return Ok(None);
-            };
-            let txn = match row {
-                None => txn.insert(table, key.clone(), cells),
-                Some(_) => txn.update(table, key.clone(), cells),
-            };
-            match txn.commit(now) {
+            match self.modify_once(table, &key, &mut function, || now) {
                 Err(Error::Conflict { .. }) => {}
-                ended => return ended.map(Some),
+                ended => return ended,
             }
         }
+    }
+
+    /// One attempt of [`Lease::modify`], which is committed at the moment that the clock then gives.
+    pub(crate) fn modify_once<'c, C: Into<Cells<'c>>>(
+        &self,
+        table: &str,
+        key: &Key,
+        function: impl FnOnce(Option<&Row>) -> Option<C>,
+        clock: impl FnOnce() -> u64,
+    ) -> Result<Option<Receipt>, Error> {
+        let mut txn = self.txn();
+        let row = txn.get(table, key.clone())?;
+        let Some(cells) = function(row.as_ref()) else {
+            return Ok(None);
+        };
+        let txn = match row {
+            None => txn.insert(table, key.clone(), cells),
+            Some(_) => txn.update(table, key.clone(), cells),
+        };
+        txn.prepare()?.commit(clock()).map(Some)
     }
 
     /// The rows of a query, by rising primary key: of a [`Query`], or of its words `select COLUMNS from
@@ -237,7 +255,7 @@ impl<'db> Lease<'db> {
 
     /// The rows of a query, by rising primary key, all as they are at one moment. They are no part of a
     /// transaction: an update made from what they hold may undo that of another thread that comes
-    /// between; [`modify`](Lease::modify) changes a row by what it holds.
+    /// between; [`modify`](Lease::modify) changes a row by what it holds, and [`Db::run`] any rows.
     ///
     /// Refusals: [`Error::Closed`], [`Error::TooFar`], [`Error::MomentTooLarge`],
     /// [`Error::BadLease`], [`Error::LeaseEnded`], [`Error::NoTable`]; of the first faulty column or

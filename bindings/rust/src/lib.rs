@@ -1,29 +1,24 @@
 //! Cagzhomul: a store in memory whose indexes and columns come and go while transactions run.
 //!
-//! A server runs transactions under a [`Lease`] on a schema version. While a [`Change`] goes from
-//! version to version, servers with older leases go on writing, and no index loses a row:
+//! Transactions run under a [`Lease`] on a schema version, which a store takes and renews by itself for
+//! [`Db::run`], [`Db::write`] and [`Db::query`]. While a [`Change`] goes from version to version, threads
+//! with older leases go on writing, and no index loses a row:
 //!
 //! ```
 //! use cagzhomul::Type::{Int, Text};
-//! use cagzhomul::{Db, Step, Table};
-//! use std::cell::Cell;
+//! use cagzhomul::{Db, Query, Table};
 //!
 //! # fn main() -> Result<(), cagzhomul::Error> {
-//! let db = Db::open([Table::new("people").key("id", Int).column("town", Text)])?;
-//! let now = Cell::new(5);
-//! let mut lease = db.lease(now.get())?;
+//! let people = Table::new("people").key("id", Int).column("town", Text);
+//! let db = Db::with_lease_length(20, [people])?; // of 20 milliseconds
+//! let clock = db.clock()?;
 //! let mut id = 0;
-//! for step in db.change("add index by_town on people (town)", || now.get())? {
-//!     if let Step::Waiting { until } = step? {
-//!         now.set(until);
-//!     }
-//!     if now.get() >= lease.until() {
-//!         lease = db.lease(now.get())?;
-//!     }
+//! for step in db.change("add index by_town on people (town)", || clock.now())? {
+//!     step?;
 //!     id += 1;
-//!     lease.txn().insert("people", id, [("town", "Ulm")]).commit(now.get())?;
+//!     db.write(|txn| txn.insert("people", id, [("town", "Ulm")]))?;
 //! }
-//! let rows = db.query(now.get(), "select town from people where town = 'Ulm'")?;
+//! let rows = db.query(clock.now(), Query::of("people").equal("town", "Ulm"))?;
 //! assert_eq!(rows.len(), id as usize);
 //! assert!(db.check()?.is_clean());
 //! # Ok(())
@@ -41,13 +36,17 @@
 mod advance;
 mod answers;
 mod change;
+mod clock;
 mod code;
+mod course;
 mod db;
 mod declarations;
 mod error;
 mod exports;
 mod faults;
+mod fetch;
 mod ffi;
+mod kept;
 pub mod layer;
 mod lease;
 mod library;
@@ -58,10 +57,12 @@ mod operations;
 mod pages;
 mod piece;
 mod plan;
+mod prepared;
 mod query;
 mod reads;
 mod records;
 mod rows;
+mod runs;
 mod schema;
 mod session;
 mod snapshot;
@@ -75,6 +76,8 @@ mod words;
 
 pub use advance::{Due, Step};
 pub use change::Change;
+pub use clock::Clock;
+pub use course::{NotCompleted, Report, Work};
 pub use db::{Db, DEFAULT_KEEP, DEFAULT_LEASE_LENGTH};
 pub use declarations::{BadDeclaration, TableCause};
 pub use error::Error;
@@ -85,13 +88,15 @@ pub use open::OpenOptions;
 pub use pages::{KeyRange, Page, Pages};
 pub use piece::{Piece, PreparedPiece, Progress, Worked};
 pub use plan::{Entering, Move, PlannedStep, Reorganisation, SchemaChange, State};
+pub use prepared::{Prepared, Receipt};
 pub use query::Query;
 pub use rows::Row;
+pub use runs::{retry, Attempt, Runs};
 pub use schema::{Schema, SchemaElement, SchemaKind, SchemaTable};
 pub use session::Session;
 pub use snapshot::{Check, Snapshot};
 pub use table::{Table, Type};
-pub use txn::{retry, Prepared, Receipt, Txn};
+pub use txn::Txn;
 pub use value::{Cells, Key, RowKey, Value};
 pub use wanted::Wanted;
 pub use words::BadWords;

@@ -2,10 +2,11 @@
 
 use crate::db::Db;
 use crate::error::Error;
+use crate::fetch::done;
 use crate::ffi;
 use crate::open::OpenOptions;
 use crate::records::{records, BEFORE, BEHIND};
-use crate::session::{done, Session};
+use crate::session::Session;
 use crate::table::Table;
 use std::fmt;
 use std::fs::{self, File, OpenOptions as FileOptions};

@@ -4,9 +4,10 @@ use crate::code;
 use crate::db::{Db, DEFAULT_LEASE_LENGTH};
 use crate::declarations::bad_table;
 use crate::error::Error;
+use crate::fetch::done;
 use crate::ffi::{self, WorldHandle};
 use crate::library::check_library;
-use crate::session::{done, Session};
+use crate::session::Session;
 use crate::table::Table;
 
 /// What is said of a store as it is opened: how long its leases last, and how far its moments may
@@ -34,7 +35,7 @@ pub struct OpenOptions {
 }
 
 impl OpenOptions {
-    /// Leases of [`DEFAULT_LEASE_LENGTH`] moments, and no moment is too far.
+    /// Leases of [`DEFAULT_LEASE_LENGTH`] moments of your clock, and no moment is too far.
     pub fn new() -> OpenOptions {
         OpenOptions {
             lease_length: DEFAULT_LEASE_LENGTH,
@@ -42,15 +43,15 @@ impl OpenOptions {
         }
     }
 
-    /// A lease lasts so many moments, from 1 to 2^32, and each version stays the newest for as long.
-    /// A checkpoint has its own lease length.
+    /// A lease lasts so many moments of your clock, which are milliseconds with [`Db::clock`], from 1 to
+    /// 2^32, and each version stays the newest for as long. A checkpoint has its own lease length.
     pub fn lease_length(mut self, moments: u64) -> OpenOptions {
         self.lease_length = moments;
         self
     }
 
-    /// A call may be so many moments after the log's last entry, and no more. With 2^64 - 1, as
-    /// without this call, no moment is too far.
+    /// A call may be so many moments after the log's last entry, and no more: with 0 each later moment
+    /// is too far, and with 2^64 - 1, as without this call, none is.
     pub fn furthest_jump(mut self, moments: u64) -> OpenOptions {
         self.furthest_jump = moments;
         self

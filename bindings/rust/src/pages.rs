@@ -1,11 +1,11 @@
 //! Queries that are read page by page.
 
 use crate::error::Error;
+use crate::fetch::bytes_of;
 use crate::ffi::{self, BytesHandle, Paged};
 use crate::names::Names;
 use crate::query::Query;
 use crate::rows::{rows_of, Row};
-use crate::session::bytes_of;
 use crate::snapshot::Snapshot;
 use crate::value::Key;
 

@@ -2,8 +2,8 @@
 
 use crate::db::Db;
 use crate::error::Error;
+use crate::fetch::done;
 use crate::ffi::{PieceHandle, PreparedPieceHandle};
-use crate::session::done;
 use std::fmt;
 
 /// How far a reorganisation is.
@@ -66,7 +66,7 @@ impl PreparedPiece<'_> {
         let mut world = self.db.session().world()?;
         let pieced = world.commit_piece(now, &mut self.handle);
         done(pieced.status)?;
-        self.db.session().grown(&mut world, pieced.place);
+        self.db.session().grown(&mut world, pieced.place, now);
         Ok(Worked {
             place: pieced.place,
             ended: pieced.ended,

@@ -3,8 +3,8 @@
 use crate::code;
 use crate::db::Db;
 use crate::error::Error;
+use crate::fetch::{fetch, status_of};
 use crate::ffi::{self, Changed};
-use crate::session::{fetch, status_of};
 use crate::steps::steps_of;
 use crate::table::Type;
 use crate::value::Value;
@@ -295,6 +295,7 @@ impl Db {
         let mut world = self.session().world()?;
         let version = number_of(world.publish(now, &step.code))?;
         self.session().published();
+        self.session().reached(now);
         Ok(version)
     }
 
@@ -305,7 +306,10 @@ impl Db {
     /// [`Error::NotWanted`], [`Error::StillUsed`], [`Error::Begun`], [`Error::BadCount`],
     /// [`Error::OutOfMemory`].
     pub fn begin_reorg(&self, now: u64, element: u32, pieces: u32) -> Result<u64, Error> {
-        number_of(self.session().world()?.begin_reorg(now, element, pieces))
+        let mut world = self.session().world()?;
+        let place = number_of(world.begin_reorg(now, element, pieces))?;
+        self.session().reached(now);
+        Ok(place)
     }
 
     /// The number of an index or a column of the newest version.

@@ -3,11 +3,11 @@
 use crate::code::{self, Code};
 use crate::error::Error;
 use crate::faults::wrong_condition;
+use crate::fetch::bytes_of;
 use crate::ffi::{self, BytesHandle, Queried};
 use crate::names::{Names, Unknown};
 use crate::pages::KeyRange;
 use crate::rows::{rows_of, Row};
-use crate::session::bytes_of;
 use crate::value::{Key, Value};
 
 /// What a row meets.

@@ -3,12 +3,12 @@
 use crate::code::Code;
 use crate::error::Error;
 use crate::faults::wrong_operation;
+use crate::fetch::done;
 use crate::ffi::{self, ReadsHandle};
 use crate::lease::Lease;
 use crate::operations::{Kind, Operations};
 use crate::query::{find, Query};
 use crate::rows::Row;
-use crate::session::done;
 use crate::value::Key;
 use std::sync::{Mutex, PoisonError};
 

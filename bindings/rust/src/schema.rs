@@ -1,10 +1,10 @@
 //! Versions of the schema, and their code as `crates/entry_code` describes it.
 
 use crate::error::Error;
+use crate::fetch::bytes_given;
 use crate::ffi::BytesHandle;
 use crate::plan::{Entering, State};
 use crate::rows::Reader;
-use crate::session::bytes_given;
 use crate::steps::{entering, kind, name, state};
 use crate::table::Type;
 use crate::value::Value;

@@ -1,18 +1,17 @@
 //! A session of the script language.
 
 use crate::change::WaitingChange;
+use crate::clock::Clock;
 use crate::error::Error;
-use crate::ffi::{self, BytesHandle, CheckpointHandle, Outcome, SessionHandle, WorldHandle};
+use crate::fetch::{bytes_given, done, fetch};
+use crate::ffi::{self, CheckpointHandle, SessionHandle, WorldHandle};
 use crate::library::check_library;
 use crate::open::OpenOptions;
 use crate::schema::{self, schema_of, Schema};
 use std::fmt;
 use std::ops::{Deref, DerefMut};
 use std::sync::atomic::{AtomicBool, AtomicU64, Ordering};
-use std::sync::{Mutex, MutexGuard, PoisonError};
-
-/// How many bytes of a reply or a code are fetched at once.
-const ROOM: usize = 1024;
+use std::sync::{Mutex, MutexGuard, OnceLock, PoisonError};
 
 /// The handles of a session.
 pub(crate) struct Held {
@@ -79,6 +78,8 @@ pub struct Session {
     /// Whether a version may have been published that the kept lease of a store is not on. It is
     /// written under the lock of the handles.
     is_newer: AtomicBool,
+    /// The clock of the world, once it was asked for.
+    pub(crate) its_clock: OnceLock<Clock>,
     /// The change that waits for its first step. Its lock is taken before that of the handles.
     pub(crate) waiting: Mutex<Option<WaitingChange>>,
 }
@@ -125,6 +126,7 @@ impl Session {
             keep: AtomicU64::new(u64::MAX),
             start: AtomicU64::new(0),
             is_newer: AtomicBool::new(false),
+            its_clock: OnceLock::new(),
             waiting: Mutex::new(None),
         }
     }
@@ -170,8 +172,10 @@ impl Session {
         Ok(newest == *schema)
     }
 
-    /// The log has an entry of this place: it is cut if it has grown long enough.
-    pub(crate) fn grown(&self, world: &mut WorldHandle, place: u64) {
+    /// The log has an entry of this place, by a call at this moment: it is cut if it has grown long
+    /// enough.
+    pub(crate) fn grown(&self, world: &mut WorldHandle, place: u64, now: u64) {
+        self.reached(now);
         let keep = self.keep.load(Ordering::Relaxed);
         let kept = place.saturating_sub(self.start.load(Ordering::Relaxed));
         if kept / 2 >= keep
@@ -192,6 +196,9 @@ impl Session {
         let reply = held.reply_to(line)?;
         if reply.starts_with("ok version ") {
             self.published();
+        }
+        if held.world.is_open() {
+            self.follow(&mut held.world);
         }
         Ok(reply)
     }
@@ -352,6 +359,7 @@ impl Session {
         let mut world = self.world()?;
         done(world.repeat(entry))?;
         self.published();
+        self.follow(&mut world);
         Ok(())
     }
 }
@@ -360,53 +368,4 @@ impl fmt::Debug for Session {
     fn fmt(&self, f: &mut fmt::Formatter<'_>) -> fmt::Result {
         f.debug_struct("Session").finish_non_exhaustive()
     }
-}
-
-/// Whether a call with this status did what it is for.
-pub(crate) fn done(status: i32) -> Result<(), Error> {
-    match status {
-        ffi::OK => Ok(()),
-        status => Err(Error::of(status)),
-    }
-}
-
-/// How a world stands, as one line of JSON.
-pub(crate) fn status_of(world: &mut WorldHandle) -> Result<String, Error> {
-    let status = fetch(|_, out| world.status(out))?;
-    String::from_utf8(status).map_err(|error| Error::Reply(error.to_string()))
-}
-
-/// The moment of the log's last entry of a world.
-pub(crate) fn moment_of(world: &mut WorldHandle) -> Result<u64, Error> {
-    let status = status_of(world)?;
-    let moment = status.split_once("\"moment\":").map(|it| it.1);
-    let digits = moment.and_then(|it| it.split(',').next());
-    let number = digits.and_then(|it| it.parse().ok());
-    number.ok_or_else(|| Error::Reply(status.clone()))
-}
-
-/// The bytes that a call gives into a closed handle.
-pub(crate) fn bytes_given(call: impl FnOnce(&mut BytesHandle) -> i32) -> Result<Vec<u8>, Error> {
-    let mut bytes = BytesHandle::closed();
-    done(call(&mut bytes))?;
-    bytes_of(&mut bytes)
-}
-
-/// The bytes that a handle holds.
-pub(crate) fn bytes_of(bytes: &mut BytesHandle) -> Result<Vec<u8>, Error> {
-    fetch(|_, out| bytes.copy_from(0, out))
-}
-
-/// All bytes of what a call writes as far as it fits; the call is made again if it did not fit, and
-/// then it is not the first one.
-pub(crate) fn fetch(mut call: impl FnMut(bool, &mut [u8]) -> Outcome) -> Result<Vec<u8>, Error> {
-    let mut room = [0; ROOM];
-    let outcome = call(true, &mut room);
-    done(outcome.status)?;
-    if outcome.length <= ROOM {
-        return Ok(room[..outcome.length].to_vec());
-    }
-    let mut bytes = vec![0; outcome.length];
-    done(call(false, &mut bytes).status)?;
-    Ok(bytes)
 }

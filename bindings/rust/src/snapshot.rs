@@ -1,12 +1,12 @@
 //! Snapshots and audits.
 
 use crate::error::Error;
+use crate::fetch::done;
 use crate::ffi::{Checked, SnapshotHandle};
 use crate::names::Names;
 use crate::pages::{find_page, KeyRange, Page, Pages};
 use crate::query::{find, Query};
 use crate::rows::Row;
-use crate::session::done;
 use std::fmt;
 use std::sync::{Arc, Mutex, MutexGuard, PoisonError};
 

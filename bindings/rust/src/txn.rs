@@ -3,25 +3,16 @@
 use crate::code::Code;
 use crate::error::Error;
 use crate::faults::wrong_operation;
-use crate::ffi::{self, BytesHandle, Committed, ReadsHandle, TxnHandle, WorldHandle};
+use crate::fetch::done;
+use crate::ffi::{self, TxnHandle};
 use crate::lease::Lease;
 use crate::names::Unknown;
 use crate::operations::{self, Kind, Operations};
+use crate::prepared::{received, Prepared, Receipt};
 use crate::reads::Reads;
 use crate::rows::Row;
-use crate::session::{bytes_of, done};
 use crate::value::{Cells, Key};
 use std::fmt;
-
-/// How many bytes there are at first for the key of a pair that has changed.
-const ROOM: usize = 256;
-
-/// What a transaction that was committed has.
-#[derive(Debug, Clone, Copy, PartialEq, Eq, PartialOrd, Ord, Hash)]
-pub struct Receipt {
-    /// The place of its entry in the log, from 1.
-    pub place: u64,
-}
 
 /// Operations under a lease, of which all are committed or none, at most 64.
 ///
@@ -71,7 +62,7 @@ impl<'a> Txn<'a> {
     /// A row as the store holds it, with all public columns, or `None` if it is not there; what
     /// this transaction writes is not in it. From then on the row is pinned: the commit is refused
     /// as [`Error::Conflict`] if another call has changed it since, whether or not this transaction
-    /// writes it. So what it writes may be computed from it, as [`retry`] shows.
+    /// writes it. So what it writes may be computed from it, as [`retry`](crate::retry) shows.
     ///
     /// Rows are read one after the other: that they are all of one moment is sure only once the
     /// commit is accepted. A second call for a row gives the same answer. A row that is got and not
@@ -103,32 +94,40 @@ impl<'a> Txn<'a> {
 
     /// Adds the insertion of a row: its key, and values by column. `()` is no values.
     pub fn insert<'c>(
-        self,
+        mut self,
         table: &str,
         key: impl Into<Key>,
         cells: impl Into<Cells<'c>>,
     ) -> Txn<'a> {
-        self.with_cells(Kind::Insert, table, &key.into(), &cells.into())
+        self.add(Kind::Insert, table, &key.into(), &cells.into());
+        self
     }
 
     /// Adds new values for columns of a row that is there.
     pub fn update<'c>(
-        self,
+        mut self,
         table: &str,
         key: impl Into<Key>,
         cells: impl Into<Cells<'c>>,
     ) -> Txn<'a> {
-        self.with_cells(Kind::Update, table, &key.into(), &cells.into())
+        self.add(Kind::Update, table, &key.into(), &cells.into());
+        self
     }
 
     /// Adds the deletion of a row that is there.
     pub fn delete(mut self, table: &str, key: impl Into<Key>) -> Txn<'a> {
-        let number = self.lease.names().table(table);
-        self.operations.push(Kind::Delete, number, &key.into());
+        self.add_deletion(table, &key.into());
         self
     }
 
-    fn with_cells(mut self, kind: Kind, table: &str, key: &Key, cells: &Cells<'_>) -> Txn<'a> {
+    /// As [`Txn::delete`], by reference.
+    pub(crate) fn add_deletion(&mut self, table: &str, key: &Key) {
+        let number = self.lease.names().table(table);
+        self.operations.push(Kind::Delete, number, key);
+    }
+
+    /// An insertion or an update.
+    pub(crate) fn add(&mut self, kind: Kind, table: &str, key: &Key, cells: &Cells<'_>) {
         let names = self.lease.names();
         let number = |column: &str| names.element(table, column);
         self.operations.push(kind, names.table(table), key);
@@ -136,7 +135,6 @@ impl<'a> Txn<'a> {
         if self.unknown.is_none() && names.table(table) != 0 {
             self.unknown = names.unknown(table, cells.0.iter().map(|cell| cell.0));
         }
-        self
     }
 
     /// Reads the rows that it names and did not get, and prepares it, to be committed later: the
@@ -199,7 +197,7 @@ impl<'a> Txn<'a> {
             let mut world = lease.db().session().world()?;
             let written = world.write(now, &mut lease.lock(), code.as_bytes());
             if written.status == ffi::OK {
-                lease.db().session().grown(&mut world, written.place);
+                lease.db().session().grown(&mut world, written.place, now);
             }
             written
         };
@@ -217,27 +215,6 @@ impl<'a> Txn<'a> {
     /// Refusals: those of both.
     pub fn commit(self, now: u64) -> Result<Receipt, Error> {
         self.prepare()?.commit(now)
-    }
-}
-
-/// The receipt of what was committed, or why it was refused: a conflict is on the pair of this key.
-fn received(lease: &Lease<'_>, reported: &Committed, pair: &[u8]) -> Result<Receipt, Error> {
-    let Committed {
-        place,
-        operation,
-        until,
-        now,
-        ..
-    } = *reported;
-    match reported.status {
-        ffi::DUPLICATE => Err(Error::Duplicate { operation }),
-        ffi::NO_ROW => Err(Error::NoRow { operation }),
-        ffi::LEASE_ENDED => Err(Error::LeaseEnded { until, now }),
-        ffi::CONFLICT => {
-            let row = lease.names().row_of(pair);
-            Err(Error::Conflict { row })
-        }
-        status => done(status).map(|()| Receipt { place }),
     }
 }
 
@@ -267,149 +244,5 @@ impl fmt::Debug for Txn<'_> {
             .field("lease", lease)
             .field("operations", operations)
             .finish_non_exhaustive()
-    }
-}
-
-/// A transaction whose rows were read, and that may be committed.
-#[must_use = "a transaction does nothing until it is committed"]
-pub struct Prepared<'a> {
-    lease: &'a Lease<'a>,
-    reads: ReadsHandle,
-    /// It is closed after an entry was asked for, until it is prepared again.
-    txn: TxnHandle,
-}
-
-impl Prepared<'_> {
-    /// Commits it: all of its operations, or none.
-    ///
-    /// Refusals: [`Error::Closed`], [`Error::TooFar`], [`Error::MomentTooLarge`],
-    /// [`Error::BadLease`], [`Error::LeaseEnded`], [`Error::WrongSchema`], [`Error::Conflict`],
-    /// [`Error::OutOfMemory`], which may come in place of the one before it, [`Error::Duplicate`]
-    /// and [`Error::NoRow`].
-    pub fn commit(mut self, now: u64) -> Result<Receipt, Error> {
-        let session = self.lease.db().session();
-        self.attempt(|world, txn, out| {
-            let committed = world.commit(now, txn, out);
-            if committed.status == ffi::OK {
-                session.grown(world, committed.place);
-            }
-            committed
-        })
-    }
-
-    /// The code of the entry that [`Prepared::commit`] would add now, and nothing changes: a program
-    /// can store it elsewhere before it commits. [`Session::repeat`](crate::Session::repeat) of it in
-    /// a world that stands here makes the same transaction. It may be asked again, and committed.
-    ///
-    /// Refusals: those of [`Prepared::commit`].
-    ///
-    /// ```
-    /// # use cagzhomul::{Db, Table, Type};
-    /// # let db = Db::open([Table::new("t").key("id", Type::Int)])?;
-    /// # let lease = db.lease(0)?;
-    /// let mut txn = lease.txn().insert("t", 1, ()).prepare()?;
-    /// let entry = txn.entry(0)?;
-    /// assert_eq!((db.session().log_length()?, txn.entry(0)?), (1, entry.clone()));
-    /// let place = txn.commit(0)?.place;
-    /// assert_eq!(db.session().entry(place)?, entry);
-    /// # Ok::<(), cagzhomul::Error>(())
-    /// ```
-    pub fn entry(&mut self, now: u64) -> Result<Vec<u8>, Error> {
-        let mut entry = BytesHandle::closed();
-        self.attempt(|world, txn, out| world.txn_entry(now, txn, out, &mut entry))?;
-        bytes_of(&mut entry)
-    }
-
-    /// Makes a call with the prepared transaction that writes as much of the key of a pair that has
-    /// changed as fits.
-    fn attempt(
-        &mut self,
-        mut call: impl FnMut(&mut WorldHandle, &mut TxnHandle, &mut [u8]) -> Committed,
-    ) -> Result<Receipt, Error> {
-        let Prepared { lease, reads, txn } = self;
-        if !txn.is_open() {
-            done(reads.prepare(txn).status)?;
-        }
-        let mut room = [0; ROOM];
-        let mut longer = Vec::new();
-        let mut world = lease.db().session().world()?;
-        let mut committed = call(&mut world, txn, &mut room);
-        if committed.length > ROOM {
-            // a refused call is made again, with room for the key of the pair
-            longer.resize(committed.length, 0);
-            committed = call(&mut world, txn, &mut longer);
-        }
-        drop(world);
-        let pair = match longer.is_empty() {
-            true => &room[..committed.length],
-            false => &longer[..committed.length],
-        };
-        received(lease, &committed, pair)
-    }
-}
-
-impl fmt::Debug for Prepared<'_> {
-    fn fmt(&self, f: &mut fmt::Formatter<'_>) -> fmt::Result {
-        f.debug_struct("Prepared")
-            .field("lease", self.lease)
-            .finish_non_exhaustive()
-    }
-}
-
-/// Makes an attempt up to so many times, at least once: again as long as it is refused as
-/// [`Error::Conflict`].
-///
-/// No update is lost if the attempt begins its transaction, and computes from nothing but what
-/// [`Txn::get`] gives. What it reads by a query, or before it, is no part of the transaction, and may
-/// have changed. [`Lease::modify`] does all this for one row.
-///
-/// ```
-/// # use cagzhomul::{retry, Db, Error, Receipt, Table, Type, Value};
-/// # let db = Db::open([Table::new("counters").key("id", Type::Int).column("n", Type::Int)])?;
-/// # let lease = db.lease(0)?;
-/// # lease.txn().insert("counters", 1, [("n", 5)]).commit(0)?;
-/// let add_one = || {
-///     let mut txn = lease.txn();
-///     let row = txn.get("counters", 1)?;
-///     let Some(Value::Int(n)) = row.as_ref().and_then(|row| row.get("n")) else {
-///         return Err(Error::NoRow { operation: 0 });
-///     };
-///     txn.update("counters", 1, [("n", n + 1)]).commit(0)
-/// };
-/// assert_eq!(retry(100, add_one)?, Receipt { place: 3 });
-/// # Ok::<(), Error>(())
-/// ```
-pub fn retry<T>(
-    attempts: usize,
-    mut attempt: impl FnMut() -> Result<T, Error>,
-) -> Result<T, Error> {
-    for _ in 1..attempts {
-        match attempt() {
-            Err(Error::Conflict { .. }) => {}
-            ended => return ended,
-        }
-    }
-    attempt()
-}
-
-#[cfg(test)]
-mod tests {
-    use super::*;
-    use crate::value::RowKey;
-
-    #[test]
-    fn only_conflicts_are_tried_again() {
-        for (attempts, made) in [(0, 1), (1, 1), (4, 4)] {
-            let mut count = 0;
-            let ended = retry(attempts, || -> Result<(), Error> {
-                count += 1;
-                Err(Error::Conflict { row: None })
-            });
-            assert_eq!((ended, count), (Err(Error::Conflict { row: None }), made));
-        }
-        let row = Some(RowKey::new("t", 1));
-        let mut errors = vec![Error::WrongSchema, Error::Conflict { row }];
-        let ended = retry(9, || errors.pop().map_or(Ok(()), Err));
-        assert_eq!((ended, errors.len()), (Err(Error::WrongSchema), 0));
     }
 }

@@ -151,6 +151,24 @@ fn before_the_first_entry_no_moment_is_too_far() -> Result<(), Error> {
 }
 
 #[test]
+fn with_no_jump_each_later_moment_is_too_far() -> Result<(), Error> {
+    let db = open(0)?;
+    db.lease(5)?; // before the first entry no moment is too far
+    for now in [6, 15, 1 << 62] {
+        assert_eq!(db.lease(now).err(), Some(Error::TooFar), "{now}");
+    }
+    for now in [5, 0] {
+        assert_eq!(db.lease(now)?.granted(), 5);
+    }
+    assert_eq!(db.session().log_length()?, 3);
+    let saved = db.session().checkpoint()?;
+    let later = OpenOptions::new().furthest_jump(0).session_at(&saved)?;
+    assert_eq!(later.advance(6, 8, 1000), Err(Error::TooFar));
+    assert_eq!(later.advance(5, 8, 1000), Ok(None));
+    Ok(())
+}
+
+#[test]
 fn without_a_furthest_jump_no_moment_is_too_far() -> Result<(), Error> {
     for db in [people(), open(u64::MAX)?] {
         db.lease(0)?;
