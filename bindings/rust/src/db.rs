@@ -261,8 +261,8 @@ impl Db {
     /// keeps the change, and the next step, [`Db::advance`] or [`Db::resume`] that is late enough
     /// begins it, also if these steps are dropped; until then another change is refused.
     ///
-    /// `clock` gives the present moment, and is asked before each step. Each step is one short
-    /// call, so other threads go on. The step after a [`Step::Waiting`] comes once the clock has
+    /// `clock` gives the present moment, as that of [`Db::clock`], and is asked before each step. Each
+    /// step is one short call, so other threads go on. The step after a [`Step::Waiting`] comes once the clock has
     /// got to its moment: until then the thread sleeps, and asks the clock every millisecond. The
     /// steps end when no change at all is under way, or after an error; [`Db::resume`] goes on
     /// then.
@@ -299,7 +299,9 @@ impl Db {
     }
 
     /// Begins a schema change as [`Db::change`] does, and takes its steps to their end: when the
-    /// call returns, no change is under way. The thread sleeps while nothing can be done.
+    /// call returns, no change is under way. The thread sleeps while nothing can be done. If it is to
+    /// end before, or to tell what it does, take [`Change::within`], [`Change::cancel`] and
+    /// [`Change::complete`]: `db.change(change, clock)?.within(limit).complete(progress)`.
     ///
     /// Refusals: those of [`Db::change`] and of its steps; after an error [`Db::resume`] goes on.
     ///
@@ -307,11 +309,10 @@ impl Db {
     /// # use cagzhomul::{Db, Table, Type};
     /// # let people = Table::new("people").key("id", Type::Int).column("town", Type::Text);
     /// let db = Db::with_lease_length(20, [people])?;
-    /// let start = std::time::Instant::now();
-    /// let clock = || start.elapsed().as_millis() as u64;
-    /// db.complete("add index by_town on people (town)", clock)?;
-    /// assert_eq!(db.lease(clock())?.version(), 4);
-    /// assert!(clock() >= 60); // each version was the newest for a lease length
+    /// let clock = db.clock()?; // in milliseconds
+    /// db.complete("add index by_town on people (town)", || clock.now())?;
+    /// assert_eq!(db.lease(clock.now())?.version(), 4);
+    /// assert!(clock.now() >= 60); // each version was the newest for a lease length
     /// # Ok::<(), cagzhomul::Error>(())
     /// ```
     pub fn complete<'w>(

@@ -39,16 +39,16 @@ fn it_begins_at_the_last_moment_of_the_world() -> Result<(), Error> {
 #[test]
 fn it_counts_milliseconds_and_never_falls() -> Result<(), Error> {
     let clock = people().clock()?; // which outlives its store
-    let begun = Instant::now();
+    let before = Instant::now();
     let first = clock.now();
-    let mut last = first;
+    let (begun, mut last) = (Instant::now(), first);
     while begun.elapsed() < Duration::from_millis(100) {
         let now = clock.now();
         assert!(now >= last);
         last = now;
     }
     let passed = clock.now() - first;
-    let most = begun.elapsed().as_millis() as u64 + 1;
+    let most = before.elapsed().as_millis() as u64 + 1;
     assert!((99..=most).contains(&passed), "{passed} of {most}");
     Ok(())
 }

@@ -44,9 +44,21 @@ fn state(db: &Db) -> Result<(String, Vec<u8>), Error> {
 type Call = fn(&Db, &Lease<'_>, u64) -> Result<(), Error>;
 
 /// The calls of a store.
-const OF_STORES: [(&str, Call); 10] = [
+const OF_STORES: [(&str, Call); 13] = [
     ("lease", |db, _, now| db.lease(now).map(drop)),
     ("query", |db, _, now| db.query(now, ALL).map(drop)),
+    ("run", |db, _, now| {
+        let runs = db.runs(|| now);
+        runs.run(|txn| txn.get("people", 1).map(drop))
+    }),
+    ("write", |db, _, now| {
+        let runs = db.runs(|| now);
+        runs.write(|txn| txn.insert("people", 2, ())).map(drop)
+    }),
+    ("modify", |db, _, now| {
+        let hof = |_: Option<&cagzhomul::Row>| Some([("town", "Hof")]);
+        db.runs(|| now).modify("people", 1, hof).map(drop)
+    }),
     ("change", |db, _, now| db.change(AGE, || now).map(drop)),
     ("complete", |db, _, now| {
         let mut next = now;
