@@ -5,7 +5,7 @@ use crate::ffi;
 
 /// The version of `include/cagzhomul.h` that this crate calls: a thousand times the major one, and the
 /// minor one.
-const VERSION: u32 = 2000;
+const VERSION: u32 = 2001;
 
 /// Refuses the library that is linked, if this crate cannot call it. Each opening begins so.
 pub(crate) fn check_library() -> Result<(), Error> {
@@ -27,10 +27,10 @@ mod tests {
 
     #[test]
     fn a_library_of_another_version_is_refused() {
-        for version in [2000, 2001, 2999] {
+        for version in [2001, 2002, 2999] {
             assert_eq!(check(version), Ok(()), "{version}");
         }
-        for version in [0, 1, 2, 1000, 1004, 1999, 3000, 3001, u32::MAX] {
+        for version in [0, 1, 2, 1000, 1004, 1999, 2000, 3000, 3001, u32::MAX] {
             let refused = Err(Error::LibraryVersion { version });
             assert_eq!(check(version), refused, "{version}");
         }

@@ -29,9 +29,9 @@ use typed_calls::{PrepareOutcome, QueryOutcome};
 /// one.
 #[unsafe(no_mangle)]
 pub extern "C" fn cagzhomul_version() -> u32
-    ensures { result ≡ 2000 }
+    ensures { result ≡ 2001 }
 {
-    2000
+    2001
 }
 
 /// `Handle::open`.
