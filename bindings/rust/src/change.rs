@@ -21,6 +21,9 @@ use std::time::Duration;
 /// How much time passes between two looks at a clock that is waited for.
 const PAUSE: Duration = Duration::from_millis(1);
 
+/// How long the store's lock is left to other threads between two steps.
+const HANDOVER: Duration = Duration::from_micros(50);
+
 /// The steps that complete a schema change, one at each call of `next`: [`Db::change`].
 ///
 /// The step after a [`Step::Waiting`] comes once the clock has got to its moment: until then the
@@ -155,6 +158,8 @@ impl<'db, C: FnMut() -> u64> Change<'db, C> {
         if let Some(first) = self.first.take() {
             return Ok(Some(first));
         }
+        // a lock that is taken again at once is not handed to a thread that sleeps for it
+        thread::sleep(HANDOVER);
         let now = self.arrived()?;
         let session = self.db.session();
         let step = session.advance(now, self.pieces, self.limit)?;
