@@ -11,7 +11,8 @@ use Rattle.schema_version.specs.Version.{Version}
 use Rattle.schema_version.specs.declared.table.TableDef.{TableDef}
 use Rattle.value_faults.specs.Faults.{IsTxnFault, IsQueryFault}
 use Rattle.value_faults.specs.declared.fault.ValueFault.{ValueFault}
-use Rattle.table_faults.specs.Faults.{declaration_fault}
+use Rattle.table_faults.specs.Faults.{IsFinding}
+use Rattle.table_faults.specs.declared.fault.TableFault.{TableFault}
 use Rattle.layer_calls.specs.declared.outcome.LayerOutcome.{LayerOutcome}
 use Rattle.fault_calls.specs.Outcomes.{found_value, found_table}
 use Rattle.fault_calls.specs.declared.outcome.ValueOutcome.{ValueOutcome}
@@ -34,4 +35,4 @@ FindsQuery version asked answer = (found : Option ValueFault) × IsQueryFinding 
 
 -- the first fault of the tables, which is none exactly if they may be declared
 abbrev pub FindsTables : List TableDef → Result TableOutcome LayerOutcome → Type 0
-FindsTables tables answer = answer ≡ Ok (found_table (declaration_fault tables))
+FindsTables tables answer = (found : Option TableFault) × IsFinding tables found × (answer ≡ Ok (found_table found))

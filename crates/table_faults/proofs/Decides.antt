@@ -10,7 +10,7 @@ use Rattle.schema_version.proofs.Declared.{all_append, distinct_names, lawful, n
 use Rattle.table_faults.specs.declared.fault.TableCause.{TableCause}
 use Rattle.table_faults.specs.declared.fault.TableCause.TheVariants.{NoTable, TooManyTables, TableName, TableTwice, KeyLength, TooManyColumns, TooManyIndexes, Name, NameTwice, ListLength, ListedTwice, NotAColumn}
 use Rattle.table_faults.specs.declared.fault.TableFault.{TableFault}
-use Rattle.table_faults.specs.Faults.{or_else, names_cause, listed_cause, index_cause, indexes_cause, size_cause, table_cause, tables_cause, declaration_fault}
+use Rattle.table_faults.specs.inner.Search.{or_else, names_cause, listed_cause, index_cause, indexes_cause, size_cause, table_cause, tables_cause, declaration_fault}
 
 none_of_both : {X : Type 0} (one other : Option X) → is_none (or_else one other) ≡ (is_none one && is_none other)
 none_of_both None other = refl

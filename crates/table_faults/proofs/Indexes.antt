@@ -4,7 +4,7 @@ use Rattle.std.proofs.lemmas.List.{drop_more}
 use Rattle.row_map.specs.declared.shape.ColumnType.{ColumnType}
 use Rattle.schema_version.specs.inner.AcceptTables.{names_in}
 use Rattle.table_faults.specs.declared.fault.TableCause.{TableCause}
-use Rattle.table_faults.specs.Faults.{index_cause, indexes_cause}
+use Rattle.table_faults.specs.inner.Search.{index_cause, indexes_cause}
 use Rattle.table_faults.proofs.Parts.{found_first}
 
 module _ (columns own_columns : List (List ℕ × ColumnType)) (indexes own_indexes : List (List ℕ × List (List ℕ))) (same_columns : columns ≡ own_columns) (same_indexes : indexes ≡ own_indexes) where

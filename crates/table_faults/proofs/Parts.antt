@@ -8,7 +8,7 @@ use Rattle.std.proofs.lemmas.List.{drop_more, take_rest}
 use Rattle.row_map.specs.declared.shape.ColumnType.{ColumnType}
 use Rattle.table_faults.specs.declared.fault.TableCause.{TableCause}
 use Rattle.table_faults.specs.declared.fault.TableCause.TheVariants.{Name, NameTwice}
-use Rattle.table_faults.specs.Faults.{or_else, names_cause}
+use Rattle.table_faults.specs.inner.Search.{or_else, names_cause}
 use Rattle.table_faults.specs.inner.Parts.{part_cause}
 
 or_after : {X : Type 0} (x y : X) (o next : Option X) (wrong again : Bool) → cond wrong (Some x) (cond again (Some y) (or_else o next)) ≡ or_else (cond wrong (Some x) (cond again (Some y) o)) next

@@ -5,7 +5,8 @@ ghost use Rattle.schema_version.specs.declared.table.TableDef.{TableDef as Decla
 ghost use Rattle.schema_version.specs.Declare.{IsLawful};
 ghost use Rattle.schema_version.specs.Names.{is_among};
 ghost use Rattle.schema_version.specs.inner.AcceptTables.{table_names};
-ghost use Rattle.table_faults.specs.Faults.{size_cause as size_cause_of, table_cause as table_cause_of, tables_cause as tables_cause_of, declaration_fault as fault_of};
+ghost use Rattle.table_faults.specs.Faults.{IsFinding};
+ghost use Rattle.table_faults.specs.inner.Search.{size_cause as size_cause_of, table_cause as table_cause_of, tables_cause as tables_cause_of, declaration_fault as fault_of};
 
 use crate::fault::{TableCause, TableFault};
 use crate::lists::indexes_cause;
@@ -70,18 +71,9 @@ fn tables_cause(tables: &[TableDef]) -> Option<TableFault>
     None
 }
 
-/// Why the tables may not be declared: the first fault, and the table that has it. None if and only
-/// if they may be declared, which is exactly when `Schema::declared` does not answer BadTable.
-///
-/// NoTable and TooManyTables come first. Then the tables are tried in their order, each for the
-/// other causes in the order of `TableCause`, but part by part: each of its names, by place, for
-/// Name and then for NameTwice; each of its indexes for ListLength, and then each place of the list
-/// for ListedTwice before NotAColumn.
-///
-/// It takes no memory.
-pub fn declaration_fault(tables: &[TableDef]) -> Option<TableFault>
-    ensures exact { result ≡ fault_of tables.now }
-    ensures decides { MatchOption result (IsLawful tables.now) (λ _. ¬ (IsLawful tables.now)) }
+// The first fault of the tables, by going over them.
+fn first_fault(tables: &[TableDef]) -> Option<TableFault>
+    ensures { result ≡ fault_of tables.now }
 {
     if tables.is_empty() {
         return Some(TableFault {
@@ -96,4 +88,20 @@ pub fn declaration_fault(tables: &[TableDef]) -> Option<TableFault>
         });
     }
     tables_cause(tables)
+}
+
+/// Why the tables may not be declared: the first fault, and the table that has it. None if and only
+/// if they may be declared, which is exactly when `Schema::declared` does not answer BadTable.
+///
+/// NoTable and TooManyTables come first. Then the tables are tried in their order, each for the
+/// other causes in the order of `TableCause`, but part by part: each of its names, by place, for
+/// Name and then for NameTwice; each of its indexes for ListLength, and then each place of the list
+/// for ListedTwice before NotAColumn.
+///
+/// It takes no memory.
+pub fn declaration_fault(tables: &[TableDef]) -> Option<TableFault>
+    ensures first { IsFinding tables.now result }
+    ensures decides { MatchOption result (IsLawful tables.now) (λ _. ¬ (IsLawful tables.now)) }
+{
+    first_fault(tables)
 }

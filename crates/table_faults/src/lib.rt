@@ -3,8 +3,10 @@
 
 mod declaration;
 mod fault;
+mod laws;
 mod lists;
 mod names;
 
 pub use declaration::declaration_fault;
 pub use fault::{TableCause, TableFault};
+pub use laws::lemma_one_fault;

@@ -2,7 +2,7 @@
 ghost use Rattle.std.specs.Prelude.{◌≡◌};
 ghost use Rattle.schema_version.specs.Names.{is_among};
 ghost use Rattle.schema_version.specs.inner.AcceptTables.{names_in};
-ghost use Rattle.table_faults.specs.Faults.{listed_cause as listed_cause_of, index_cause as index_cause_of, indexes_cause as indexes_cause_of};
+ghost use Rattle.table_faults.specs.inner.Search.{listed_cause as listed_cause_of, index_cause as index_cause_of, indexes_cause as indexes_cause_of};
 
 use crate::fault::TableCause;
 use crate::names::is_named;

@@ -4,7 +4,7 @@ ghost use Rattle.std.specs.List.{list_any};
 ghost use Rattle.schema_version.specs.Declare.{names_of};
 ghost use Rattle.schema_version.specs.Names.{is_among, max_key_columns, max_columns, max_indexes};
 ghost use Rattle.schema_version.specs.inner.AcceptTables.{names_in};
-ghost use Rattle.table_faults.specs.Faults.{names_cause as names_cause_of};
+ghost use Rattle.table_faults.specs.inner.Search.{names_cause as names_cause_of};
 ghost use Rattle.table_faults.specs.inner.Parts.{part_cause as part_cause_of};
 
 use crate::fault::TableCause;

@@ -1,5 +1,5 @@
 use Rattle.std.proofs.Common.{◌≡◌, drop}
-use Rattle.table_faults.specs.Faults.{tables_cause}
+use Rattle.table_faults.specs.inner.Search.{tables_cause}
 use Rattle.table_faults.proofs.declaration.tables_cause.Given as goal
 
 abbrev pub invariant-loop-table : goal.invariant-loop-table

@@ -1,6 +1,6 @@
 use Rattle.std.proofs.Common.{◌≡◌, drop}
 use Rattle.schema_version.specs.inner.AcceptTables.{names_in}
-use Rattle.table_faults.specs.Faults.{indexes_cause}
+use Rattle.table_faults.specs.inner.Search.{indexes_cause}
 use Rattle.table_faults.proofs.lists.indexes_cause.Given as goal
 
 abbrev pub invariant-loop-index : goal.invariant-loop-index

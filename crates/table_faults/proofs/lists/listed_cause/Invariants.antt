@@ -1,6 +1,6 @@
 use Rattle.std.proofs.Common.{◌≡◌, drop}
 use Rattle.schema_version.specs.inner.AcceptTables.{names_in}
-use Rattle.table_faults.specs.Faults.{listed_cause}
+use Rattle.table_faults.specs.inner.Search.{listed_cause}
 use Rattle.table_faults.proofs.lists.listed_cause.Given as goal
 
 abbrev pub invariant-loop-place : goal.invariant-loop-place
